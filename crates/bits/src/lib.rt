@@ -1,0 +1,1 @@
+// Bits and symbols of the slice streams (bits.rs).
