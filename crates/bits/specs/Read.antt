@@ -28,7 +28,7 @@ pickTail false a b = b
 
 -- "z zeros, then z + 2 bits"
 unfoldable pub tailAt : Stream → ℕ → ℕ → Tail
-tailAt s p z = pickTail (leb z maxZeros) (number (num (z + 2) 0 s (p + z)) (p + z + (z + 2))) badTail
+tailAt s p z = pickTail (leb z maxZeros) (number (num (suc (suc z)) 0 s (p + z)) (p + z + suc (suc z))) badTail
 
 unfoldable pub readTail : Stream → ℕ → Tail
 readTail s p = tailAt s p (zeros (suc maxZeros) s p)
@@ -49,12 +49,12 @@ asValue (number c q) = value c q
 
 -- "after the head (`0` value, `10` run, `11` run of 1)"
 abbrev pub byHead : Stream → ℕ → Bool → Bool → Symbol
-byHead s p false b = asValue (readTail s (p + 1))
-byHead s p true false = asRun (readTail s (p + 2))
-byHead s p true true = run 1 (p + 2)
+byHead s p false b = asValue (readTail s (suc p))
+byHead s p true false = asRun (readTail s (suc (suc p)))
+byHead s p true true = run 1 (suc (suc p))
 
 unfoldable pub readSymbol : Stream → ℕ → Symbol
-readSymbol s p = byHead s p (s p) (s (p + 1))
+readSymbol s p = byHead s p (s p) (s (suc p))
 
 -- a code of the DC stream and the place behind it
 pub data DcCode : Type 0 where
@@ -68,8 +68,8 @@ asStep (number c q) = step c q
 
 -- "A DC code whose first bit is one is a zero step, its second bit ignored."
 abbrev pub byFirst : Stream → ℕ → Bool → DcCode
-byFirst s p true = zeroStep (p + 2)
-byFirst s p false = asStep (readTail s (p + 1))
+byFirst s p true = zeroStep (suc (suc p))
+byFirst s p false = asStep (readTail s (suc p))
 
 unfoldable pub readDc : Stream → ℕ → DcCode
 readDc s p = byFirst s p (s p)

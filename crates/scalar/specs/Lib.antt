@@ -1,1 +1,2 @@
 pub mod Scalar
+pub mod Tab
