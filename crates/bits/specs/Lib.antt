@@ -1,3 +1,4 @@
 pub mod Bits
 pub mod Signed
 pub mod Read
+pub mod Lay

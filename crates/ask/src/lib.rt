@@ -1,0 +1,4 @@
+// Questions and answers: definitions only.
+pub fn one() -> u8 {
+    1
+}
