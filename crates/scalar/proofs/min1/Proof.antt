@@ -1,0 +1,22 @@
+use mathlib.Core.Path.{refl}
+use mir.Facts.{toZ-ofZ}
+use Rattle.scalar.specs.Scalar.{minOf}
+use Rattle.scalar.proofs.min1.Statement.{statement}
+use Rattle.scalar.proofs.min1.Tie as tie
+
+returns : tie.Need-returns
+unfolding minOf
+returns c =
+    let s = c .before in
+    let e = rw (toZ-ofZ (s .fits .a), toZ-ofZ (s .fits .b)) at (c .if1 .taken) in
+    rw (toZ-ofZ (s .fits .a), e) refl
+
+returns-2 : tie.Need-returns-2
+unfolding minOf
+returns-2 c =
+    let s = c .before in
+    let e = rw (toZ-ofZ (s .fits .a), toZ-ofZ (s .fits .b)) at (c .if1 .left) in
+    rw (toZ-ofZ (s .fits .b), e) refl
+
+pub min1-spec : {M : Type 1} → statement M
+min1-spec = tie.close (tie.spec returns returns-2)
