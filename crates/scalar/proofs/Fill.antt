@@ -4,7 +4,7 @@ use mathlib.Core.List.{List, [], _∷_, _++_}
 use Prim.Native.Nat.{ℕ, zero, suc, _+_, _<_, _≤_}
 use native.Mathlib.Numerals.{add-one}
 use native.Mathlib.Omega.{arith}
-use lib.ListN.{length, getD, take, set}
+use lib.ListN.{length, getD, take, set, length-set}
 use lib.Seq.{take-suc, take-suc-set, take-all, ext-getD}
 use Rattle.scalar.specs.Tab.{tabFrom, tab}
 
@@ -56,3 +56,13 @@ module _ {A : Type 0} where
   -- the loop is over
   pub fill-done : (n : ℕ) (f : ℕ → A) (r : List A) (k : ℕ) → n ≤ k → length r ≡ n → take k r ≡ take k (tab n f) → r ≡ tab n f
   fill-done n f r k h s e = sym (take-all k r (omega arith)) ∙ e ∙ take-all k (tab n f) (omega (arith, length-tab n f))
+
+  -- the first k of n places are filled: such a loop's invariant
+  abbrev pub Filled : (n : ℕ) → (ℕ → A) → List A → ℕ → Type 0
+  Filled n f r k = (k ≤ n) × ((length r ≡ n) × (take k r ≡ take k (tab n f)))
+
+  pub filled-next : (n : ℕ) (f : ℕ → A) (r : List A) (k : ℕ) {z : A} → k < n → Filled n f r k → z ≡ f k → Filled n f (set r k z) (k + 1)
+  filled-next n f r k {z} h i e = (omega arith, (length-set r k z ∙ i .1 .0, fill-next n f r k h (i .1 .0) (i .1 .1) e))
+
+  pub filled-done : (n : ℕ) (f : ℕ → A) (r : List A) (k : ℕ) → n ≤ k → Filled n f r k → r ≡ tab n f
+  filled-done n f r k h i = fill-done n f r k h (i .1 .0) (i .1 .1)

@@ -5,15 +5,15 @@ use Prim.Native.Nat.{ℕ, zero, suc, _+_, _*_, _-_, _/_, _%_, _^_, _<_, _≤_, m
 use native.Mathlib.Omega.{arith}
 use native.Mathlib.Nat.{mul-le-mul, lt-of-le-of-lt, lt-of-lt-of-le}
 use lib.Bits.{bitAnd, and-mask}
-use lib.IntN.{ℤ, pos, negsuc, negℤ, subℕ, _+ℤ_, _-ℤ_, _*ℤ_, +ℤ-idl}
-use lib.Signed.{mag, shrZ, ltZ, mag-shr}
-use lib.Dec.{ltb, lit≤}
+use lib.IntN.{ℤ, pos, negsuc, negℤ, subℕ, _+ℤ_, _-ℤ_, _*ℤ_, +ℤ-idl, natAbs}
+use lib.Signed.{mag, shrZ, ltZ, mag-shr, nonNeg}
+use lib.Dec.{T, ltb, lit≤}
 use borrow.Author.Tests.{ltb-true, ltb-false, le-ltb}
 use borrow.Author.Needs.{sfits-of}
-use mir.Syntax.{Width, w16, w32, w64}
-use mir.Val.{SFits, toZ, ofZ, sel}
+use mir.Syntax.{Width, w8, w16, w32, w64}
+use mir.Val.{SFits, Fits, toZ, ofZ, sel}
 use mir.Facts.{toZ-ofZ, toZ-pos, sfits-widen, sfits-toZ, fits-ofZ}
-use Rattle.scalar.specs.Scalar.{sat16, wrap16, wrap32, modZ, absOf, signOf}
+use Rattle.scalar.specs.Scalar.{sat16, wrap16, wrap32, modZ, absOf, signOf, packusOf}
 
 -- a number of 16 bits fits 32, one of 32 fits 64
 pub wide16 : {z : ℤ} → SFits w16 z → SFits w32 z
@@ -253,6 +253,25 @@ pub abs-pos : (z : ℤ) → ltZ z (pos 0) ≡ false → absOf z ≡ z
 unfolding absOf
 abs-pos (pos n) e = refl
 abs-pos (negsuc n) e = cc
+
+pub packus-low : (z : ℤ) → ltZ z (pos 0) ≡ true → 0 ≡ packusOf z
+unfolding packusOf
+packus-low (pos n) e = absurd (omega (arith, ltb-true n 0 e))
+packus-low (negsuc n) e = refl
+
+pub packus-high : (z : ℤ) → ltZ (pos 255) z ≡ true → 255 ≡ packusOf z
+unfolding packusOf
+packus-high (pos n) e = omega (arith, ltb-true 255 n e)
+packus-high (negsuc n) e = cc
+
+pub packus-mid : (z : ℤ) → ltZ z (pos 0) ≡ false → ltZ (pos 255) z ≡ false → natAbs z ≡ packusOf z
+unfolding packusOf
+packus-mid (pos n) e f = omega (arith, ltb-false 255 n f)
+packus-mid (negsuc n) e f = cc
+
+pub byte-fits : (z : ℤ) → ltZ z (pos 0) ≡ false → ltZ (pos 255) z ≡ false → T (nonNeg z) × Fits w8 (natAbs z)
+byte-fits (pos n) e f = (tt, record { fits = omega (arith, ltb-false 255 n f) })
+byte-fits (negsuc n) e f = let o : _≡_ {A = ℕ} 0 1 = cc in absurd (omega arith)
 
 -- A lane's result, and its operands, each read back from its bits: as a loop over lanes finds them.
 -- The operands' width is w, the result's v.

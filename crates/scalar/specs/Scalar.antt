@@ -91,3 +91,8 @@ add32Of a b = wrap32 (a +ℤ b)
 -- _mm_sub_epi32
 unfoldable pub sub32Of : ℤ → ℤ → ℤ
 sub32Of a b = wrap32 (a -ℤ b)
+
+-- _mm_packus_epi16: the number of 8 bits nearest to z
+unfoldable pub packusOf : ℤ → ℕ
+packusOf (pos n) = min n 255
+packusOf (negsuc n) = zero

@@ -5,8 +5,8 @@ ghost use Prim.Native.Nat.{_<_};
 ghost use lib.IntN.{_+ℤ_, _-ℤ_, _*ℤ_, negℤ};
 ghost use lib.Signed.{shrZ};
 ghost use mir.Syntax.{w16};
-ghost use mir.Val.{ofZ};
-ghost use Rattle.scalar.specs.Scalar.{sat16, wrap16, wrap32, addsOf, subsOf, addOf, mulhiOf, mulhiuOf, mulloOf, sraOf, sllOf, orOf, absOf, signOf, minOf, maxOf, maddOf, add32Of, sub32Of};
+ghost use mir.Val.{ofZ, toZ};
+ghost use Rattle.scalar.specs.Scalar.{sat16, wrap16, wrap32, addsOf, subsOf, addOf, mulhiOf, mulhiuOf, mulloOf, sraOf, sllOf, orOf, absOf, signOf, minOf, maxOf, maddOf, add32Of, sub32Of, packusOf};
 
 pub fn sum16(a: i16, b: i16) -> i32
     ensures { λ r. ⌜ r ≡ a +ℤ b ⌝ }
@@ -195,4 +195,24 @@ pub fn sra32(a: i32, n: u32) -> i32
     ensures { λ r. ⌜ r ≡ sraOf a n ⌝ }
 {
     a >> n
+}
+
+// The 16 bits of x, read as signed.
+pub fn signed16(x: u16) -> i16
+    ensures { λ r. ⌜ r ≡ toZ w16 x ⌝ }
+{
+    low(x as i32)
+}
+
+// The number of 8 bits nearest to x.
+pub fn packus1(x: i16) -> u8
+    ensures { λ r. ⌜ r ≡ packusOf x ⌝ }
+{
+    if x < 0 {
+        0
+    } else if 255 < x {
+        255
+    } else {
+        x as u8
+    }
 }
