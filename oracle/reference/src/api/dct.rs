@@ -1,0 +1,32 @@
+//! Transforms and quantiser.
+
+use super::{on, Depth, Path};
+
+impl Depth {
+    pub(crate) fn published(self) -> crate::dct::Depth {
+        match self {
+            Depth::Eight => crate::dct::Depth::Eight,
+            Depth::Ten => crate::dct::Depth::Ten,
+        }
+    }
+}
+
+/// Forward transform, quantiser and zig-zag of a block; `add` is minus the level.
+pub fn fdct_quant_zig(path: Path, rows: &[[i16; 8]; 8], depth: Depth, matrix: &[u16; 192], add: i16) -> [i16; 64] {
+    on!(path, S => crate::dct::fdct_quant_zig::<S>(rows, depth.published(), matrix, add))
+}
+
+/// Dequantising and inverse transform into 8-bit samples.
+pub fn idct8(path: Path, nat: &[i16; 64], matrix: &[u16; 64], dst: &mut [u8], stride: usize, add: i16) {
+    on!(path, S => crate::dct::idct8::<S>(nat, matrix, dst, stride, add))
+}
+
+/// Dequantising and inverse transform into 16-bit samples.
+pub fn idct16(path: Path, nat: &[i16; 64], matrix: &[u16; 64], dst: &mut [u16], stride: usize, add: i16) {
+    on!(path, S => crate::dct::idct16::<S>(nat, matrix, dst, stride, add))
+}
+
+/// Flat block. The published function takes rows from `dst.chunks_mut(stride)`.
+pub fn broadcast_dc8(dc: i16, dst: &mut [u8], stride: usize, add: i16) {
+    crate::dct::broadcast_dc8(dc, dst, stride, add)
+}

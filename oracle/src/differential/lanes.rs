@@ -1,0 +1,120 @@
+//! Lane operations: unary over all 65,536 values, binary on extremes x extremes
+//! and random rows.
+
+use super::Run;
+use crate::gen::{self, EXTREMES, EXTREMES32};
+use crate::report::Kind;
+use reference::api::lanes::{self, PATTERNS, SHIFTS, SHUFFLES, TWO, V16, V32};
+use reference::api::Path;
+use std::fmt::Debug;
+
+pub fn run(run: &mut Run) {
+    let two: Vec<Two> = TWO.iter().map(|op| Two { kind: run.report.kind(format!("lanes: {op}")), op }).collect();
+    for op in &two {
+        op.fixed(run);
+    }
+    unary(run);
+    shuffles(run);
+    wide(run);
+    while run.more() {
+        for _ in 0..200 {
+            for op in &two {
+                let (a, b) = (gen::row(&mut run.rng), gen::row(&mut run.rng));
+                op.check(run, a, b);
+            }
+        }
+        shuffles(run);
+        wide(run);
+    }
+}
+
+/// Compares what both paths make of one input.
+fn paths<A: PartialEq + Debug>(run: &mut Run, kind: Kind, f: impl Fn(Path) -> A, input: impl FnOnce() -> String) {
+    let wanted = f(Path::Sse2);
+    run.report.same(kind, &f(Path::Portable), &wanted, 0, input);
+}
+
+struct Two {
+    kind: Kind,
+    op: &'static str,
+}
+
+impl Two {
+    fn check(&self, run: &mut Run, a: V16, b: V16) {
+        paths(run, self.kind, |p| lanes::two(p, self.op, a, b), || format!("{} {a:?} {b:?}", self.op));
+    }
+
+    /// Every extreme with every extreme, in every lane.
+    fn fixed(&self, run: &mut Run) {
+        for x in EXTREMES {
+            for shift in 0..EXTREMES.len() {
+                self.check(run, [x; 8], core::array::from_fn(|k| EXTREMES[(shift + k) % EXTREMES.len()]));
+            }
+        }
+    }
+}
+
+/// Operations of one row, over all lane values, eight at a time.
+fn unary(run: &mut Run) {
+    let abs = run.report.kind("lanes: abs16, all values");
+    let pack = run.report.kind("lanes: packus8, all values");
+    let splat = run.report.kind("lanes: splat, all values");
+    let load = run.report.kind("lanes: load_u, all values");
+    let shifts: Vec<(Kind, &str)> =
+        SHIFTS.iter().map(|op| (run.report.kind(format!("lanes: {op}, all values, 0 to 15")), *op)).collect();
+    for base in 0..8192u32 {
+        let u: [u16; 8] = core::array::from_fn(|k| (8 * base) as u16 + k as u16);
+        let a: V16 = u.map(|x| x as i16);
+        paths(run, abs, |p| lanes::abs16(p, a), || format!("{a:?}"));
+        paths(run, pack, |p| lanes::packus8(p, a), || format!("{a:?}"));
+        paths(run, load, |p| lanes::load_u(p, &u), || format!("{u:?}"));
+        for x in a {
+            paths(run, splat, |p| lanes::splat(p, x), || format!("{x}"));
+        }
+        for n in 0..16 {
+            for (kind, op) in &shifts {
+                paths(run, *kind, |p| lanes::shift(p, op, a, n), || format!("{a:?} by {n}"));
+            }
+        }
+    }
+}
+
+fn shuffles(run: &mut Run) {
+    for op in SHUFFLES {
+        let kind = run.report.kind(format!("lanes: {op}"));
+        for imm in PATTERNS {
+            let a = gen::row(&mut run.rng);
+            paths(run, kind, |p| lanes::shuffle(p, op, a, imm), || format!("{a:?} by {imm:#x}"));
+        }
+    }
+    let kind = run.report.kind("lanes: shuffle32");
+    for imm in PATTERNS {
+        let a = gen::row32(&mut run.rng);
+        paths(run, kind, |p| lanes::shuffle32(p, a, imm), || format!("{a:?} by {imm:#x}"));
+    }
+    let kind = run.report.kind("lanes: nonzero_mask");
+    let zz = gen::planes::coefficients(&mut run.rng);
+    paths(run, kind, |p| lanes::nonzero_mask(p, &zz), || format!("{zz:?}"));
+}
+
+/// Operations with 32-bit lanes.
+fn wide(run: &mut Run) {
+    let madd = run.report.kind("lanes: madd");
+    for _ in 0..40 {
+        let (a, b) = (gen::row(&mut run.rng), gen::row(&mut run.rng));
+        paths(run, madd, |p| lanes::madd(p, a, b), || format!("{a:?} {b:?}"));
+    }
+    let [add, sub, pack] = ["add32", "sub32", "packs32"].map(|op| run.report.kind(format!("lanes: {op}")));
+    let [shift, splat] = ["srai32", "splat32"].map(|op| run.report.kind(format!("lanes: {op}")));
+    for x in EXTREMES32 {
+        paths(run, splat, |p| lanes::splat32(p, x), || format!("{x}"));
+        for pair in [[[x; 4], gen::row32(&mut run.rng)], [gen::row32(&mut run.rng), gen::row32(&mut run.rng)]] {
+            let [a, b]: [V32; 2] = pair;
+            paths(run, add, |p| lanes::add32(p, a, b), || format!("{a:?} {b:?}"));
+            paths(run, sub, |p| lanes::sub32(p, a, b), || format!("{a:?} {b:?}"));
+            paths(run, pack, |p| lanes::packs32(p, a, b), || format!("{a:?} {b:?}"));
+            let n = run.rng.below(32) as u32;
+            paths(run, shift, |p| lanes::srai32(p, a, n), || format!("{a:?} by {n}"));
+        }
+    }
+}

@@ -1,0 +1,31 @@
+//! Quantiser numbers, zig-zag, presets: small enough to compare whole.
+
+use super::Run;
+use reference::api::tables::{quality_preset, quant, reciprocal, PRESETS, ZIGZAG};
+
+pub fn run(run: &mut Run) {
+    let rule = run.report.kind("tables: two high multiplies are the rounded division (1,600 entries x 32,769)");
+    let pinned = run.report.kind("tables: entries are reciprocal of their divisor");
+    for preset in 0..PRESETS {
+        let q = quant(preset);
+        for place in 0..64 {
+            let d = q.decode[place];
+            let [c, f, s] = [q.encode[place], q.encode[64 + place], q.encode[128 + place]];
+            run.report.same(pinned, &[c, f, s], &reciprocal(d), place, || format!("preset {preset} place {place}"));
+            let wrong = (0..=32768u32).find(|x| {
+                let two = ((((x + c as u32) & 0xffff) * f as u32) >> 16) * s as u32 >> 16;
+                two != (x + d as u32 / 2) / d as u32
+            });
+            run.report.check(rule, wrong.is_none(), place, || format!("preset {preset} place {place} x {wrong:?}"));
+        }
+    }
+    let order = run.report.kind("tables: zig-zag is a permutation");
+    let mut seen = ZIGZAG;
+    seen.sort();
+    run.report.check(order, seen.iter().enumerate().all(|(i, n)| i == *n), 0, || format!("{ZIGZAG:?}"));
+    let presets = run.report.kind("tables: quality_preset 0..255");
+    for quality in 0..=255 {
+        let (_, preset) = quality_preset(quality);
+        run.report.check(presets, preset < PRESETS, 0, || format!("quality {quality}"));
+    }
+}
