@@ -1,0 +1,9 @@
+pub mod Every
+pub mod Divide
+pub mod Rule
+pub mod Sizes
+pub mod Rounding
+pub mod Places
+pub mod Scan
+pub mod Presets
+pub mod Vectors
