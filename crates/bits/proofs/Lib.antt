@@ -1,0 +1,5 @@
+pub mod Codes
+pub mod BitLaw
+pub mod PackBack
+pub mod SignedBack
+pub mod Prefix
