@@ -1,17 +1,17 @@
 -- The choice of a preset, step by step.
-use mathlib.Core.Path.{_≡_, refl, _∙_, sym}
+use mathlib.Core.Path.{_≡_, refl}
 use mathlib.Core.Bool.{Bool, true, false}
 use mathlib.Core.List.{List, [], _∷_}
 use Prim.Native.Nat.{ℕ, zero, suc, _+_, _-_, _≤_, _<_}
 use native.Mathlib.Numerals.{add-one}
 use native.Mathlib.Omega.{arith}
 use borrow.Author.Tests.{le-leb, lt-leb}
-use lib.Dec.{T, leb, ltb, leb→le, ltb→lt}
+use lib.Dec.{T, leb, leb→le, lit<}
 use lib.ListN.{length, getD, drop}
 use lib.Seq.{drop-cons}
 use Rattle.tables.specs.Divisor.{qualityFactors}
 use Rattle.tables.specs.Quality.{Chosen, pickChosen, chooseFrom, qualityPreset}
-use Rattle.tables.proofs.Every.{both, both-left, both-right, everyFrom, every}
+use Rattle.tables.proofs.Every.{everyFrom, every}
 
 pub factors-length : length qualityFactors ≡ 25
 unfolding qualityFactors
@@ -59,3 +59,18 @@ unfolding chooseFrom qualityFactors
 choice-none q i h k =
     let e : i ≡ 25 = omega arith in
     rw e refl
+
+pick-below : (b : Bool) (x y : Chosen) → x .index < 25 → y .index < 25 → pickChosen b x y .index < 25
+pick-below true x y h k = h
+pick-below false x y h k = k
+
+choose-below : (q i : ℕ) (ms : List ℕ) → i + length ms ≤ 25 → chooseFrom q i ms .index < 25
+unfolding chooseFrom
+choose-below q i [] h = lit< tt
+choose-below q i (m ∷ ms) h =
+    pick-below (leb 100 (m + q)) (record { quality = 100 - m; index = i }) (chooseFrom q (suc i) ms) (omega arith) (choose-below q (suc i) ms (omega arith))
+
+-- what is chosen is a preset
+pub preset-below : (q : ℕ) → qualityPreset q .index < 25
+unfolding qualityPreset
+preset-below q = choose-below q 0 qualityFactors (omega (arith, factors-length))
