@@ -1,0 +1,2 @@
+pub mod Writer
+mod Words
