@@ -5,6 +5,8 @@ mod differential;
 #[cfg(published)]
 mod gen;
 #[cfg(published)]
+mod ours;
+#[cfg(published)]
 mod report;
 
 const USAGE: &str = "usage: oracle differential SECONDS SEED [LAYER..] | answers | bench";

@@ -3,6 +3,7 @@
 
 use super::Run;
 use crate::gen::{self, EXTREMES, EXTREMES32};
+use crate::ours;
 use crate::report::Kind;
 use reference::api::lanes::{self, PATTERNS, SHIFTS, SHUFFLES, TWO, V16, V32};
 use reference::api::Path;
@@ -28,10 +29,11 @@ pub fn run(run: &mut Run) {
     }
 }
 
-/// Compares what both paths make of one input.
-fn paths<A: PartialEq + Debug>(run: &mut Run, kind: Kind, f: impl Fn(Path) -> A, input: impl FnOnce() -> String) {
-    let wanted = f(Path::Sse2);
-    run.report.same(kind, &f(Path::Portable), &wanted, 0, input);
+/// Compares what we and both paths of the Rust make of one input.
+fn three<A: PartialEq + Debug>(run: &mut Run, kind: Kind, ours: A, rust: impl Fn(Path) -> A, input: impl Fn() -> String) {
+    let wanted = rust(Path::Sse2);
+    run.report.same(kind, &ours, &wanted, 0, &input);
+    run.report.same(kind, &rust(Path::Portable), &wanted, 0, || format!("the Rust's portable path: {}", input()));
 }
 
 struct Two {
@@ -41,7 +43,7 @@ struct Two {
 
 impl Two {
     fn check(&self, run: &mut Run, a: V16, b: V16) {
-        paths(run, self.kind, |p| lanes::two(p, self.op, a, b), || format!("{} {a:?} {b:?}", self.op));
+        three(run, self.kind, ours::lanes::two(self.op, a, b), |p| lanes::two(p, self.op, a, b), || format!("{} {a:?} {b:?}", self.op));
     }
 
     /// Every extreme with every extreme, in every lane.
@@ -65,20 +67,21 @@ fn unary(run: &mut Run) {
     for base in 0..8192u32 {
         let u: [u16; 8] = core::array::from_fn(|k| (8 * base) as u16 + k as u16);
         let a: V16 = u.map(|x| x as i16);
-        paths(run, abs, |p| lanes::abs16(p, a), || format!("{a:?}"));
-        paths(run, pack, |p| lanes::packus8(p, a), || format!("{a:?}"));
-        paths(run, load, |p| lanes::load_u(p, &u), || format!("{u:?}"));
+        three(run, abs, ours::lanes::abs16(a), |p| lanes::abs16(p, a), || format!("{a:?}"));
+        three(run, pack, ours::lanes::packus8(a), |p| lanes::packus8(p, a), || format!("{a:?}"));
+        three(run, load, ours::lanes::load_u(&u), |p| lanes::load_u(p, &u), || format!("{u:?}"));
         for x in a {
-            paths(run, splat, |p| lanes::splat(p, x), || format!("{x}"));
+            three(run, splat, ours::lanes::splat(x), |p| lanes::splat(p, x), || format!("{x}"));
         }
         for n in 0..16 {
             for (kind, op) in &shifts {
-                paths(run, *kind, |p| lanes::shift(p, op, a, n), || format!("{a:?} by {n}"));
+                three(run, *kind, ours::lanes::shift(op, a, n), |p| lanes::shift(p, op, a, n), || format!("{a:?} by {n}"));
             }
         }
     }
 }
 
+/// Shuffles: each pattern that both paths have.
 fn shuffles(run: &mut Run) {
     for op in SHUFFLES {
         let kind = run.report.kind(format!("lanes: {op}"));
@@ -92,9 +95,17 @@ fn shuffles(run: &mut Run) {
         let a = gen::row32(&mut run.rng);
         paths(run, kind, |p| lanes::shuffle32(p, a, imm), || format!("{a:?} by {imm:#x}"));
     }
+    let kind = run.report.kind("lanes: unpacklo32");
+    let (a, b) = (gen::row(&mut run.rng), gen::row(&mut run.rng));
+    paths(run, kind, |p| lanes::unpacklo32(p, a, b), || format!("{a:?} {b:?}"));
     let kind = run.report.kind("lanes: nonzero_mask");
     let zz = gen::planes::coefficients(&mut run.rng);
     paths(run, kind, |p| lanes::nonzero_mask(p, &zz), || format!("{zz:?}"));
+}
+
+/// Compares both paths of the Rust only.
+fn paths<A: PartialEq + Debug>(run: &mut Run, kind: Kind, f: impl Fn(Path) -> A, input: impl FnOnce() -> String) {
+    run.report.same(kind, &f(Path::Portable), &f(Path::Sse2), 0, input);
 }
 
 /// Operations with 32-bit lanes.
@@ -102,19 +113,19 @@ fn wide(run: &mut Run) {
     let madd = run.report.kind("lanes: madd");
     for _ in 0..40 {
         let (a, b) = (gen::row(&mut run.rng), gen::row(&mut run.rng));
-        paths(run, madd, |p| lanes::madd(p, a, b), || format!("{a:?} {b:?}"));
+        three(run, madd, ours::lanes::madd(a, b), |p| lanes::madd(p, a, b), || format!("{a:?} {b:?}"));
     }
     let [add, sub, pack] = ["add32", "sub32", "packs32"].map(|op| run.report.kind(format!("lanes: {op}")));
     let [shift, splat] = ["srai32", "splat32"].map(|op| run.report.kind(format!("lanes: {op}")));
     for x in EXTREMES32 {
-        paths(run, splat, |p| lanes::splat32(p, x), || format!("{x}"));
+        three(run, splat, ours::lanes::splat32(x), |p| lanes::splat32(p, x), || format!("{x}"));
         for pair in [[[x; 4], gen::row32(&mut run.rng)], [gen::row32(&mut run.rng), gen::row32(&mut run.rng)]] {
             let [a, b]: [V32; 2] = pair;
-            paths(run, add, |p| lanes::add32(p, a, b), || format!("{a:?} {b:?}"));
-            paths(run, sub, |p| lanes::sub32(p, a, b), || format!("{a:?} {b:?}"));
-            paths(run, pack, |p| lanes::packs32(p, a, b), || format!("{a:?} {b:?}"));
+            three(run, add, ours::lanes::add32(a, b), |p| lanes::add32(p, a, b), || format!("{a:?} {b:?}"));
+            three(run, sub, ours::lanes::sub32(a, b), |p| lanes::sub32(p, a, b), || format!("{a:?} {b:?}"));
+            three(run, pack, ours::lanes::packs32(a, b), |p| lanes::packs32(p, a, b), || format!("{a:?} {b:?}"));
             let n = run.rng.below(32) as u32;
-            paths(run, shift, |p| lanes::srai32(p, a, n), || format!("{a:?} by {n}"));
+            three(run, shift, ours::lanes::srai32(a, n), |p| lanes::srai32(p, a, n), || format!("{a:?} by {n}"));
         }
     }
 }

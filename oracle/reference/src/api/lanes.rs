@@ -8,13 +8,13 @@ pub type V16 = [i16; 8];
 pub type V32 = [i32; 4];
 
 /// Operations of two rows of eight lanes.
-pub const TWO: [&str; 11] =
-    ["adds", "subs", "add16", "mulhi", "mulhi_u", "mullo", "or16", "sign16", "min16", "max16", "unpacklo32"];
+pub const TWO: [&str; 10] =
+    ["adds", "subs", "add16", "mulhi", "mulhi_u", "mullo", "or16", "sign16", "min16", "max16"];
 /// Operations of one row and a shift.
 pub const SHIFTS: [&str; 2] = ["srai16", "slli16"];
 /// Shuffles of eight lanes.
 pub const SHUFFLES: [&str; 3] = ["shuffle32_16", "shufflelo", "shufflehi"];
-/// Shuffle patterns: those of dct.rs.
+/// Shuffle patterns that both paths have: those of dct.rs. The portable path has all.
 pub const PATTERNS: [u8; 9] = [0x00, 0x1b, 0x44, 0x4e, 0x55, 0xaa, 0xd8, 0xee, 0xff];
 
 /// A path's own vector of four 32-bit lanes, from and to plain numbers.
@@ -61,7 +61,6 @@ fn two16<S: Isa>(op: &str, a: V16, b: V16) -> V16 {
         "sign16" => S::sign16(x, y),
         "min16" => S::min16(x, y),
         "max16" => S::max16(x, y),
-        "unpacklo32" => S::unpacklo32(x, y),
         _ => panic!("no such operation"),
     })
 }
@@ -69,6 +68,10 @@ fn two16<S: Isa>(op: &str, a: V16, b: V16) -> V16 {
 /// Two rows of eight lanes to one.
 pub fn two(path: Path, op: &str, a: V16, b: V16) -> V16 {
     on!(path, S => two16::<S>(op, a, b))
+}
+
+pub fn unpacklo32(path: Path, a: V16, b: V16) -> V16 {
+    on!(path, S => S::store(S::unpacklo32(S::load(&a), S::load(&b))))
 }
 
 pub fn madd(path: Path, a: V16, b: V16) -> V32 {
@@ -115,7 +118,10 @@ pub fn shuffle32(path: Path, a: V32, imm: u8) -> V32 {
     fn go<S: Numbers>(a: V32, imm: u8) -> V32 {
         S::out32(pattern!(imm, shuffle32, S::in32(a), [0x00 0x1b 0x44 0x4e 0x55 0xaa 0xd8 0xee 0xff]))
     }
-    on!(path, S => go::<S>(a, imm))
+    match path {
+        Path::Sse2 => go::<Native>(a, imm),
+        Path::Portable => crate::lanes::shuffle32(a, imm),
+    }
 }
 
 pub fn shuffle(path: Path, op: &str, a: V16, imm: u8) -> V16 {
@@ -128,7 +134,12 @@ pub fn shuffle(path: Path, op: &str, a: V16, imm: u8) -> V16 {
             _ => panic!("no such shuffle"),
         })
     }
-    on!(path, S => go::<S>(op, a, imm))
+    match (path, op) {
+        (Path::Sse2, _) => go::<Native>(op, a, imm),
+        (_, "shuffle32_16") => crate::lanes::shuffle32_16(a, imm),
+        (_, "shufflelo") => crate::lanes::shufflelo(a, imm),
+        _ => crate::lanes::shufflehi(a, imm),
+    }
 }
 
 pub fn packus8(path: Path, a: V16) -> [u8; 8] {

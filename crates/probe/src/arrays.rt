@@ -1,0 +1,77 @@
+// Arrays out of lent numbers and back. Rust lends as many as are asked for; where there are fewer, reading gives zeros
+// and nothing is stored.
+
+// Eight lanes.
+pub fn row(s: &[i16]) -> [i16; 8] {
+    if s.len() < 8 {
+        return [0i16; 8];
+    }
+    [s[0], s[1], s[2], s[3], s[4], s[5], s[6], s[7]]
+}
+
+// Four wide lanes.
+pub fn wide(s: &[i32]) -> [i32; 4] {
+    if s.len() < 4 {
+        return [0i32; 4];
+    }
+    [s[0], s[1], s[2], s[3]]
+}
+
+// A block of 64.
+pub fn block(s: &[i16]) -> [i16; 64] {
+    let mut r = [0i16; 64];
+    if 64 <= s.len() {
+        for k in 0..64 {
+            r[k] = s[k];
+        }
+    }
+    r
+}
+
+pub fn put_row(out: &mut [i16], v: [i16; 8]) {
+    if 8 <= out.len() {
+        for k in 0..8 {
+            out[k] = v[k];
+        }
+    }
+}
+
+pub fn put_wide(out: &mut [i32], v: [i32; 4]) {
+    if 4 <= out.len() {
+        for k in 0..4 {
+            out[k] = v[k];
+        }
+    }
+}
+
+pub fn put_bytes(out: &mut [u8], v: [u8; 8]) {
+    if 8 <= out.len() {
+        for k in 0..8 {
+            out[k] = v[k];
+        }
+    }
+}
+
+pub fn put_block(out: &mut [i16], v: [i16; 64]) {
+    if 64 <= out.len() {
+        for k in 0..64 {
+            out[k] = v[k];
+        }
+    }
+}
+
+pub fn put_numbers(out: &mut [u16], v: [u16; 64]) {
+    if 64 <= out.len() {
+        for k in 0..64 {
+            out[k] = v[k];
+        }
+    }
+}
+
+pub fn put_triples(out: &mut [u16], v: [u16; 192]) {
+    if 192 <= out.len() {
+        for k in 0..192 {
+            out[k] = v[k];
+        }
+    }
+}

@@ -1,0 +1,4 @@
+// Inner functions opened to Rust, for the comparison with the published code: one file for each crate. Nobody else calls them.
+mod arrays;
+mod of_lanes;
+mod of_tables;

@@ -1,0 +1,110 @@
+// The lane operations (crate lanes).
+use crate::arrays::put_bytes;
+use crate::arrays::put_row;
+use crate::arrays::put_wide;
+use crate::arrays::row;
+use crate::arrays::wide;
+
+// The operations of two rows, numbered as the oracle numbers them.
+fn two(op: u32, a: [i16; 8], b: [i16; 8]) -> [i16; 8] {
+    match op {
+        0 => lanes::adds(a, b),
+        1 => lanes::subs(a, b),
+        2 => lanes::add16(a, b),
+        3 => lanes::mulhi(a, b),
+        4 => lanes::mulhi_u(a, b),
+        5 => lanes::mullo(a, b),
+        6 => lanes::or16(a, b),
+        7 => lanes::sign16(a, b),
+        8 => lanes::min16(a, b),
+        _ => lanes::max16(a, b),
+    }
+}
+
+// The operations of one row, two of them with a shift below 16.
+fn one(op: u32, a: [i16; 8], n: u8) -> [i16; 8] {
+    match op {
+        0 => lanes::srai16(a, (n % 16) as u32),
+        1 => lanes::slli16(a, (n % 16) as u32),
+        _ => lanes::abs16(a),
+    }
+}
+
+// The operations of wide rows, the last with a shift below 32.
+fn two32(op: u32, a: [i32; 4], b: [i32; 4], n: u8) -> [i32; 4] {
+    match op {
+        0 => lanes::add32(a, b),
+        1 => lanes::sub32(a, b),
+        _ => lanes::srai32(a, (n % 32) as u32),
+    }
+}
+
+// Two rows to one.
+#[no_mangle]
+pub extern "C" fn probe_lanes_two(op: u32, a: &[i16], b: &[i16], out: &mut [i16]) {
+    let x = row(a);
+    let y = row(b);
+    let r = two(op, x, y);
+    put_row(out, r);
+}
+
+// One row and a number to a row.
+#[no_mangle]
+pub extern "C" fn probe_lanes_one(op: u32, a: &[i16], n: u8, out: &mut [i16]) {
+    let x = row(a);
+    let r = one(op, x, n);
+    put_row(out, r);
+}
+
+// Two wide rows and a number to a wide row.
+#[no_mangle]
+pub extern "C" fn probe_lanes_two32(op: u32, a: &[i32], b: &[i32], n: u8, out: &mut [i32]) {
+    let x = wide(a);
+    let y = wide(b);
+    let r = two32(op, x, y, n);
+    put_wide(out, r);
+}
+
+#[no_mangle]
+pub extern "C" fn probe_lanes_madd(a: &[i16], b: &[i16], out: &mut [i32]) {
+    let x = row(a);
+    let y = row(b);
+    let r = lanes::madd(x, y);
+    put_wide(out, r);
+}
+
+#[no_mangle]
+pub extern "C" fn probe_lanes_packs32(a: &[i32], b: &[i32], out: &mut [i16]) {
+    let x = wide(a);
+    let y = wide(b);
+    let r = lanes::packs32(x, y);
+    put_row(out, r);
+}
+
+#[no_mangle]
+pub extern "C" fn probe_lanes_splat(v: i16, out: &mut [i16]) {
+    let r = lanes::splat(v);
+    put_row(out, r);
+}
+
+#[no_mangle]
+pub extern "C" fn probe_lanes_splat32(v: i32, out: &mut [i32]) {
+    let r = lanes::splat32(v);
+    put_wide(out, r);
+}
+
+#[no_mangle]
+pub extern "C" fn probe_lanes_load_u(t: &[u16], out: &mut [i16]) {
+    if t.len() < 8 {
+        return;
+    }
+    let r = lanes::load_u([t[0], t[1], t[2], t[3], t[4], t[5], t[6], t[7]]);
+    put_row(out, r);
+}
+
+#[no_mangle]
+pub extern "C" fn probe_lanes_packus8(a: &[i16], out: &mut [u8]) {
+    let x = row(a);
+    let r = lanes::packus8(x);
+    put_bytes(out, r);
+}

@@ -1,0 +1,5 @@
+//! The Rattle code, through its static libraries: what crosses the boundary is
+//! numbers, and slices as pointer and count.
+
+pub mod lanes;
+pub mod tables;
