@@ -1,0 +1,221 @@
+-- Laws of frame reading, over the definitions.
+use mathlib.Core.Path.{_≡_, refl, sym, ap, _∙_}
+use mathlib.Core.Bool.{Bool, true, false, _&&_}
+use mathlib.Core.List.{List, [], _∷_}
+use Prim.Native.Nat.{ℕ, zero, suc, _+_, _-_, _*_, _/_, _%_, _≤_, _<_}
+use native.Mathlib.Omega.{arith}
+use native.Mathlib.Numerals.{add-one}
+use lib.Dec.{leb, ltb, eqb}
+use lib.ListN.{length, getD}
+use borrow.Author.Tests.{lt-ltb, le-ltb, le-leb, lt-leb, eq-eqb, ne-eqb, leb-true, leb-false}
+use Rattle.ask.specs.Ask.{Answer, refused, accepted, Question, ask, firstNo, asked, andThen}
+use Rattle.layout.specs.Geometry.{sizeOk, sizeQuestion, sliceCount, alignedHeight, imageRowOf, rowIf, interlaceCapable, geometryOf, layoutOf, maxDcLen, maxAcLen}
+use Rattle.layout.specs.Frame.{byteAt, lengthAt, oneStream, streams, headerQuestions, formatAt, shiftIn, countOk, isInterlaced, dcStreams, frameRead, parseOf}
+
+-- ---- the size
+and-left : (a b : Bool) → a && b ≡ true → a ≡ true
+and-left true b e = refl
+and-left false b e = e
+
+and-right : (a b : Bool) → a && b ≡ true → b ≡ true
+and-right true b e = e
+and-right false b e = absurd (false-true e)
+  where
+    false-true : false ≡ true → ⊥
+    false-true e = let z : _≡_ {A = ℕ} 0 1 = cc in omega arith
+
+pub record Sized (w h : ℕ) : Type 0 where
+  pub wide : w ≤ 7680
+  pub high : h ≤ 4320
+
+pub sized : (w h : ℕ) → sizeOk w h ≡ true → Sized w h
+sized w h e =
+    let a = and-right (eqb (w % 2) 0) (leb 16 w && (leb w 7680 && (leb 16 h && leb h 4320))) e in
+    let b = and-right (leb 16 w) (leb w 7680 && (leb 16 h && leb h 4320)) a in
+    record {
+      wide = leb-true w 7680 (and-left (leb w 7680) (leb 16 h && leb h 4320) b);
+      high = leb-true h 4320 (and-right (leb 16 h) (leb h 4320) (and-right (leb w 7680) (leb 16 h && leb h 4320) b));
+    }
+
+pub fits : (w h : ℕ) → sizeOk w h ≡ true → layoutOf w h ≡ accepted (geometryOf w h)
+unfolding layoutOf asked firstNo
+fits w h e = rw e
+
+pub too-large : (w h : ℕ) → sizeOk w h ≡ false → layoutOf w h ≡ refused 9
+unfolding layoutOf asked firstNo
+too-large w h e = rw e
+
+-- ---- answers
+pub never : {n q : ℕ} → refused n ≡ accepted q → ⊥
+never g = let z : _≡_ {A = ℕ} 0 1 = cc in omega arith
+
+pub same : {a b : ℕ} → accepted a ≡ accepted b → a ≡ b
+same g = cc
+
+-- ---- one stream
+module _ (limit : ℕ) (f : List ℕ) (p : ℕ) where
+  pub one-cut : length f < p + 4 → oneStream limit f p ≡ refused 10
+  unfolding oneStream asked firstNo
+  one-cut h = rw (lt-leb (p + 4) (length f) h)
+
+  pub one-long : p + 4 ≤ length f → limit < lengthAt f p → oneStream limit f p ≡ refused 13
+  unfolding oneStream asked firstNo
+  one-long h k = rw (le-leb (p + 4) (length f) h, lt-leb (lengthAt f p) limit k)
+
+  pub one-short : p + 4 ≤ length f → lengthAt f p ≤ limit → length f < p + 4 + lengthAt f p → oneStream limit f p ≡ refused 10
+  unfolding oneStream asked firstNo
+  one-short h k l =
+      rw (le-leb (p + 4) (length f) h, le-leb (lengthAt f p) limit k, lt-leb (p + 4 + lengthAt f p) (length f) l)
+
+  pub one-whole : p + 4 ≤ length f → lengthAt f p ≤ limit → p + 4 + lengthAt f p ≤ length f → oneStream limit f p ≡ accepted (p + 4 + lengthAt f p)
+  unfolding oneStream asked firstNo
+  one-whole h k l =
+      rw (le-leb (p + 4) (length f) h, le-leb (lengthAt f p) limit k, le-leb (p + 4 + lengthAt f p) (length f) l)
+
+  -- an accepted stream lies in the frame
+  pub one-inside : (q : ℕ) → oneStream limit f p ≡ accepted q → q ≤ length f
+  one-inside q e = go (leb (p + 4) (length f)) refl (leb (lengthAt f p) limit) refl (leb (p + 4 + lengthAt f p) (length f)) refl
+    where
+      go : (a : Bool) → leb (p + 4) (length f) ≡ a → (b : Bool) → leb (lengthAt f p) limit ≡ b → (d : Bool) → leb (p + 4 + lengthAt f p) (length f) ≡ d → q ≤ length f
+      go false x b y d z = absurd (never (sym (one-cut (leb-false _ _ x)) ∙ e))
+      go true x false y d z = absurd (never (sym (one-long (leb-true _ _ x) (leb-false _ _ y)) ∙ e))
+      go true x true y false z = absurd (never (sym (one-short (leb-true _ _ x) (leb-true _ _ y) (leb-false _ _ z)) ∙ e))
+      go true x true y true z =
+          let g : q ≡ p + 4 + lengthAt f p = same (sym e ∙ one-whole (leb-true _ _ x) (leb-true _ _ y) (leb-true _ _ z)) in
+          omega (arith, leb-true (p + 4 + lengthAt f p) (length f) z)
+
+-- ---- a turn of the walk: `left` streams are still to come
+pub turn : (left limit : ℕ) (f : List ℕ) (p q : ℕ) → oneStream limit f p ≡ accepted q → streams (suc left) limit f p ≡ streams left limit f q
+unfolding streams
+turn left limit f p q e = rw e
+
+pub stop : (left limit : ℕ) (f : List ℕ) (p n : ℕ) → oneStream limit f p ≡ refused n → streams (suc left) limit f p ≡ refused n
+unfolding streams
+stop left limit f p n e = rw e
+
+-- ---- rows of a field
+module _ (h r half : ℕ) (e : half ≡ alignedHeight h) where
+  pub upper : r < half / 2 → (b : Bool) → ltb r (h / 2) ≡ b → imageRowOf h r true ≡ rowIf b (2 * r + 0)
+  unfolding imageRowOf
+  upper k b t = rw (lt-ltb r (alignedHeight h / 2) (rw e at k), t)
+
+  pub lower : half / 2 ≤ r → (b : Bool) → ltb (r - half / 2) (h / 2) ≡ b → imageRowOf h r true ≡ rowIf b (2 * (r - half / 2) + 1)
+  unfolding imageRowOf
+  lower k b t = rw (← e, le-ltb r (half / 2) k, t)
+
+-- ---- the header
+pub format-small : (f : List ℕ) → formatAt f ≤ 2
+format-small f = go (eqb (byteAt f 0) 3) refl
+  where
+    go : (b : Bool) → eqb (byteAt f 0) 3 ≡ b → formatAt f ≤ 2
+    go true e = rw e (omega arith)
+    go false e = rw e (omega arith)
+
+module _ (h : ℕ) (f : List ℕ) {at : ℕ} (e : at ≡ formatAt f) where
+  pub progressive : byteAt f at ≡ 1 → isInterlaced h f ≡ false
+  progressive k = rw (← e, eq-eqb (byteAt f at) 1 k)
+
+  pub may-interlace : (byteAt f at ≡ 1 → ⊥) → isInterlaced h f ≡ interlaceCapable h
+  may-interlace k = rw (← e, ne-eqb (byteAt f at) 1 k)
+
+-- ---- the walk, by the count of streams passed
+module _ (n limit : ℕ) (f : List ℕ) (p : ℕ) where
+  pub next-turn : (k at : ℕ) {q : ℕ} → k < n → streams n limit f p ≡ streams (n - k) limit f at → oneStream limit f at ≡ accepted q → streams n limit f p ≡ streams (n - (k + 1)) limit f q
+  next-turn k at {q} h e t =
+      let s : n - k ≡ suc (n - (k + 1)) = omega arith in
+      e ∙ ap (λ (x : ℕ). streams x limit f at) s ∙ turn (n - (k + 1)) limit f at q t
+
+  pub next-stop : (k at : ℕ) {m : ℕ} → k < n → streams n limit f p ≡ streams (n - k) limit f at → oneStream limit f at ≡ refused m → streams n limit f p ≡ refused m
+  next-stop k at {m} h e t =
+      let s : n - k ≡ suc (n - (k + 1)) = omega arith in
+      e ∙ ap (λ (x : ℕ). streams x limit f at) s ∙ stop (n - (k + 1)) limit f at m t
+
+  pub walk-start : streams n limit f p ≡ streams (n - 0) limit f p
+  walk-start =
+      let s : n ≡ n - 0 = omega arith in
+      ap (λ (x : ℕ). streams x limit f p) s
+
+  pub walked : (k at : ℕ) → n ≤ k → streams n limit f p ≡ streams (n - k) limit f at → streams n limit f p ≡ accepted at
+  unfolding streams
+  walked k at h e =
+      let s : n - k ≡ 0 = omega arith in
+      e ∙ ap (λ (x : ℕ). streams x limit f at) s
+
+-- ---- the first "no" about the header, by what led there
+module _ (w h : ℕ) (f : List ℕ) where
+  pub no-size : sizeOk w h ≡ false → firstNo (headerQuestions w h f) ≡ 9
+  unfolding firstNo headerQuestions
+  no-size a = rw a
+
+  module _ (a : sizeOk w h ≡ true) where
+    pub no-five : length f < 5 → firstNo (headerQuestions w h f) ≡ 10
+    unfolding firstNo headerQuestions
+    no-five b = rw (a, lt-leb 5 (length f) b)
+
+    module _ (b : 5 ≤ length f) where
+      pub no-format : byteAt f 0 < 1 → firstNo (headerQuestions w h f) ≡ 11
+      unfolding firstNo headerQuestions
+      no-format d = rw (a, le-leb 5 (length f) b, lt-leb 1 (byteAt f 0) d)
+
+      pub above-three : 3 < byteAt f 0 → firstNo (headerQuestions w h f) ≡ 11
+      unfolding firstNo headerQuestions
+      above-three d = rw (a, le-leb 5 (length f) b, le-leb 1 (byteAt f 0) (omega arith), lt-leb (byteAt f 0) 3 d)
+
+      module _ (d : 1 ≤ byteAt f 0) (e : byteAt f 0 ≤ 3) where
+        pub no-shift : 15 < shiftIn f → firstNo (headerQuestions w h f) ≡ 2
+        unfolding firstNo headerQuestions
+        no-shift g = rw (a, le-leb 5 (length f) b, le-leb 1 (byteAt f 0) d, le-leb (byteAt f 0) 3 e, lt-leb (shiftIn f) 15 g)
+
+        module _ (g : shiftIn f ≤ 15) where
+          pub no-count : countOk h f ≡ false → firstNo (headerQuestions w h f) ≡ 12
+          unfolding firstNo headerQuestions
+          no-count i = rw (a, le-leb 5 (length f) b, le-leb 1 (byteAt f 0) d, le-leb (byteAt f 0) 3 e, le-leb (shiftIn f) 15 g, i)
+
+          pub all-yes : countOk h f ≡ true → firstNo (headerQuestions w h f) ≡ 0
+          unfolding firstNo headerQuestions
+          all-yes i = rw (a, le-leb 5 (length f) b, le-leb 1 (byteAt f 0) d, le-leb (byteAt f 0) 3 e, le-leb (shiftIn f) 15 g, i)
+
+-- ---- the frame
+-- every answer is yes: so the size is legal and five bytes are there
+pub record Legal (w h : ℕ) (f : List ℕ) : Type 0 where
+  pub size : Sized w h
+  pub five : 5 ≤ length f
+
+pub legal : (w h : ℕ) (f : List ℕ) → firstNo (headerQuestions w h f) ≡ 0 → Legal w h f
+legal w h f e = go (sizeOk w h) refl (leb 5 (length f)) refl
+  where
+    go : (a : Bool) → sizeOk w h ≡ a → (b : Bool) → leb 5 (length f) ≡ b → Legal w h f
+    go false x b y = absurd (let z = sym (no-size w h f x) ∙ e in omega arith)
+    go true x false y = absurd (let z = sym (no-five w h f x (leb-false 5 (length f) y)) ∙ e in omega arith)
+    go true x true y = record { size = sized w h x; five = leb-true 5 (length f) y }
+
+module _ (w h : ℕ) (f : List ℕ) where
+  pub frame-no : {n : ℕ} → n ≡ firstNo (headerQuestions w h f) → 0 < n → parseOf w h f ≡ refused n
+  unfolding parseOf asked
+  frame-no {n = zero} e k = absurd (omega arith)
+  frame-no {n = suc n} e k = rw (← e)
+
+  module _ (e : firstNo (headerQuestions w h f) ≡ 0) where
+    pub dc-no : {n : ℕ} → dcStreams w h f ≡ refused n → parseOf w h f ≡ refused n
+    unfolding parseOf asked
+    dc-no d = rw (e, d)
+
+    pub dc-only : {q : ℕ} → dcStreams w h f ≡ accepted q → length f ≤ q → parseOf w h f ≡ accepted (frameRead h f false)
+    unfolding parseOf asked
+    dc-only {q} d l = rw (e, d, le-ltb q (length f) l)
+
+    pub ac-no : {q n : ℕ} → dcStreams w h f ≡ accepted q → q < length f → streams (sliceCount h) (maxAcLen w) f q ≡ refused n → parseOf w h f ≡ refused n
+    unfolding parseOf asked
+    ac-no {q} d l k = rw (e, d, lt-ltb q (length f) l, k)
+
+    pub ac-too : {q n : ℕ} → dcStreams w h f ≡ accepted q → q < length f → streams (sliceCount h) (maxAcLen w) f q ≡ accepted n → parseOf w h f ≡ accepted (frameRead h f true)
+    unfolding parseOf asked
+    ac-too {q} d l k = rw (e, d, lt-ltb q (length f) l, k)
+
+-- the code's walks are the definitions' walks
+module _ (w h : ℕ) (f : List ℕ) {slices : ℕ} {a : Answer ℕ} where
+  pub dc-walk : {limit at : ℕ} → slices ≡ sliceCount h → limit ≡ maxDcLen w → at ≡ formatAt f → streams slices limit f (at + 3) ≡ a → dcStreams w h f ≡ a
+  dc-walk p q r e = rw (← p, ← q, ← r) e
+
+  pub ac-walk : (q : ℕ) {limit : ℕ} → slices ≡ sliceCount h → limit ≡ maxAcLen w → streams slices limit f q ≡ a → streams (sliceCount h) (maxAcLen w) f q ≡ a
+  ac-walk q p r e = rw (← p, ← r) e

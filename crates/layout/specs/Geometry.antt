@@ -1,0 +1,97 @@
+-- Frame geometry (layout.rs). Document 01, 'Frame'.
+use mathlib.Core.Bool.{Bool, true, false, _&&_, _||_, cond}
+use mathlib.Core.List.{List, [], _∷_}
+use Prim.Native.Nat.{ℕ, zero, suc, _+_, _-_, _*_, _/_, _%_}
+use lib.Dec.{leb, ltb, eqb}
+use Rattle.ask.specs.Ask.{Answer, refused, accepted, Question, ask, asked}
+
+-- v rounded up to a multiple of a
+abbrev pub alignUp : ℕ → ℕ → ℕ
+alignUp v a = (v + (a - 1)) / a * a
+
+-- question 9: "Width even, 16 to 7,680, height 16 to 4,320?"
+abbrev pub sizeOk : ℕ → ℕ → Bool
+sizeOk w h = eqb (w % 2) 0 && (leb 16 w && (leb w 7680 && (leb 16 h && leb h 4320)))
+
+abbrev pub sizeQuestion : ℕ → ℕ → Question
+sizeQuestion w h = ask (sizeOk w h) 9
+
+-- planes 0 and 3 have the luma stride, planes 1 and 2 the chroma stride
+abbrev pub lumaStride : ℕ → ℕ
+lumaStride w = alignUp w 8
+
+abbrev pub chromaStride : ℕ → ℕ
+chromaStride w = alignUp (w / 2) 8
+
+abbrev pub alignedHeight : ℕ → ℕ
+alignedHeight h = alignUp h 16
+
+-- slices of 16 rows
+abbrev pub sliceCount : ℕ → ℕ
+sliceCount h = alignedHeight h / 16
+
+-- "Limits per stream: stride x 32 (DC), stride x 56 (AC), by the stride of plane 0."
+abbrev pub maxDcLen : ℕ → ℕ
+maxDcLen w = lumaStride w * 32
+
+abbrev pub maxAcLen : ℕ → ℕ
+maxAcLen w = lumaStride w * 56
+
+-- "only heights 480, 576 and 1080 keep it"
+abbrev pub interlaceCapable : ℕ → Bool
+interlaceCapable h = eqb h 480 || (eqb h 576 || eqb h 1080)
+
+pub record Geometry : Type 0 where
+  pub width : ℕ
+  pub height : ℕ
+  pub alignedHeight : ℕ
+  pub slices : ℕ
+  pub luma : ℕ
+  pub chroma : ℕ
+  pub maxDcLen : ℕ
+  pub maxAcLen : ℕ
+
+abbrev pub geometryOf : ℕ → ℕ → Geometry
+geometryOf w h =
+    record {
+      width = w;
+      height = h;
+      alignedHeight = alignedHeight h;
+      slices = sliceCount h;
+      luma = lumaStride w;
+      chroma = chromaStride w;
+      maxDcLen = maxDcLen w;
+      maxAcLen = maxAcLen w;
+    }
+
+unfoldable pub layoutOf : ℕ → ℕ → Answer Geometry
+layoutOf w h = asked (sizeQuestion w h ∷ []) (accepted (geometryOf w h))
+
+-- the image row of a coded row, or none for a padding row
+pub data ImageRow : Type 0 where
+  padding : ImageRow
+  row : ℕ → ImageRow
+
+abbrev pub rowIf : Bool → ℕ → ImageRow
+rowIf true r = row r
+rowIf false r = padding
+
+-- the top field (even rows) lies in the upper half, the bottom field in the lower half
+abbrev pub fieldRow : ℕ → ℕ → ℕ → ImageRow
+fieldRow height f parity = rowIf (ltb f (height / 2)) (2 * f + parity)
+
+abbrev pub byHalf : Bool → ℕ → ℕ → ℕ → ImageRow
+byHalf true height half r = fieldRow height r 0
+byHalf false height half r = fieldRow height (r - half) 1
+
+unfoldable pub imageRowOf : ℕ → ℕ → Bool → ImageRow
+imageRowOf h r false = rowIf (ltb r h) r
+imageRowOf h r true = byHalf (ltb r (alignedHeight h / 2)) h (alignedHeight h / 2) r
+
+-- the size of the 1/8 preview
+unfoldable pub previewWidth : ℕ → ℕ
+previewWidth w = alignUp (w / 8) 2
+
+unfoldable pub previewHeight : ℕ → Bool → ℕ
+previewHeight h false = h / 8
+previewHeight h true = h / 8 - h / 8 % 2
