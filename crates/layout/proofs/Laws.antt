@@ -8,9 +8,9 @@ use native.Mathlib.Numerals.{add-one}
 use lib.Dec.{leb, ltb, eqb}
 use lib.ListN.{length, getD}
 use borrow.Author.Tests.{lt-ltb, le-ltb, le-leb, lt-leb, eq-eqb, ne-eqb, leb-true, leb-false}
-use Rattle.ask.specs.Ask.{Answer, refused, accepted, Question, ask, firstNo, asked, andThen}
+use Rattle.ask.specs.Ask.{Answer, refused, accepted, Question, ask, firstNo, asked, andThen, byNumber}
 use Rattle.layout.specs.Geometry.{sizeOk, sizeQuestion, sliceCount, alignedHeight, imageRowOf, rowIf, interlaceCapable, geometryOf, layoutOf, maxDcLen, maxAcLen}
-use Rattle.layout.specs.Frame.{byteAt, lengthAt, oneStream, streams, headerQuestions, formatAt, shiftIn, countOk, isInterlaced, dcStreams, frameRead, parseOf}
+use Rattle.layout.specs.Frame.{byteAt, lengthAt, oneStream, streams, headerQuestions, formatAt, shiftIn, countOk, isInterlaced, dcStreams, frameRead, FrameRead, parseOf, Legal, View, partAt, nthStream, kindStart, kindLimit, kindView, viewOf, wanted}
 
 -- ---- the size
 and-left : (a b : Bool) → a && b ≡ true → a ≡ true
@@ -177,17 +177,13 @@ module _ (w h : ℕ) (f : List ℕ) where
 
 -- ---- the frame
 -- every answer is yes: so the size is legal and five bytes are there
-pub record Legal (w h : ℕ) (f : List ℕ) : Type 0 where
-  pub size : Sized w h
-  pub five : 5 ≤ length f
-
 pub legal : (w h : ℕ) (f : List ℕ) → firstNo (headerQuestions w h f) ≡ 0 → Legal w h f
 legal w h f e = go (sizeOk w h) refl (leb 5 (length f)) refl
   where
     go : (a : Bool) → sizeOk w h ≡ a → (b : Bool) → leb 5 (length f) ≡ b → Legal w h f
     go false x b y = absurd (let z = sym (no-size w h f x) ∙ e in omega arith)
     go true x false y = absurd (let z = sym (no-five w h f x (leb-false 5 (length f) y)) ∙ e in omega arith)
-    go true x true y = record { size = sized w h x; five = leb-true 5 (length f) y }
+    go true x true y = record { wide = sized w h x .wide; high = sized w h x .high; five = leb-true 5 (length f) y }
 
 module _ (w h : ℕ) (f : List ℕ) where
   pub frame-no : {n : ℕ} → n ≡ firstNo (headerQuestions w h f) → 0 < n → parseOf w h f ≡ refused n
@@ -219,3 +215,127 @@ module _ (w h : ℕ) (f : List ℕ) {slices : ℕ} {a : Answer ℕ} where
 
   pub ac-walk : (q : ℕ) {limit : ℕ} → slices ≡ sliceCount h → limit ≡ maxAcLen w → streams slices limit f q ≡ a → streams (sliceCount h) (maxAcLen w) f q ≡ a
   ac-walk q p r e = rw (← p, ← r) e
+
+-- an accepted frame has a legal header
+pub frame-legal : (w h : ℕ) (f : List ℕ) {r : FrameRead} → parseOf w h f ≡ accepted r → Legal w h f
+frame-legal w h f {r} e = go (firstNo (headerQuestions w h f)) refl
+  where
+    go : (n : ℕ) → firstNo (headerQuestions w h f) ≡ n → Legal w h f
+    go zero x = legal w h f x
+    go (suc n) x = absurd (let z : _≡_ {A = ℕ} 0 1 = cc (frame-no w h f (sym x) (omega arith)) in omega arith)
+
+-- ---- the streams lie in the frame
+abbrev Within : List ℕ → Answer ℕ → Type 0
+Within f (refused m) = Unit {0}
+Within f (accepted q) = q ≤ length f
+
+streams-within : (n limit : ℕ) (f : List ℕ) (p : ℕ) → p ≤ length f → Within f (streams n limit f p)
+unfolding streams
+streams-within zero limit f p h = h
+streams-within (suc n) limit f p h = go (oneStream limit f p) refl (λ q k. streams-within n limit f q k)
+  where
+    go : (a : Answer ℕ) → oneStream limit f p ≡ a → ((q : ℕ) → q ≤ length f → Within f (streams n limit f q)) → Within f (andThen a (λ q. streams n limit f q))
+    go (refused m) x next = tt
+    go (accepted r) x next = next r (one-inside limit f p r x)
+
+pub streams-inside : (n limit : ℕ) (f : List ℕ) (p : ℕ) {q : ℕ} → p ≤ length f → streams n limit f p ≡ accepted q → q ≤ length f
+streams-inside n limit f p h e = rw e at (streams-within n limit f p h)
+
+-- ---- a stream behind n others
+module _ (n limit : ℕ) (f : List ℕ) (p : ℕ) where
+  pub nth-walk : {m : ℕ} → streams n limit f p ≡ refused m → nthStream n limit f p ≡ refused m
+  unfolding nthStream
+  nth-walk e = rw e
+
+  pub nth-no : {q m : ℕ} → streams n limit f p ≡ accepted q → oneStream limit f q ≡ refused m → nthStream n limit f p ≡ refused m
+  unfolding nthStream
+  nth-no e d = rw (e, d)
+
+  pub nth-yes : {q r : ℕ} → streams n limit f p ≡ accepted q → oneStream limit f q ≡ accepted r → nthStream n limit f p ≡ accepted (partAt f q)
+  unfolding nthStream
+  nth-yes e d = rw (e, d)
+
+-- where an accepted stream ends
+pub one-end : (limit : ℕ) (f : List ℕ) (p : ℕ) {q : ℕ} → oneStream limit f p ≡ accepted q → q ≡ p + 4 + lengthAt f p
+one-end limit f p {q} e = go (leb (p + 4) (length f)) refl (leb (lengthAt f p) limit) refl (leb (p + 4 + lengthAt f p) (length f)) refl
+  where
+    go : (a : Bool) → leb (p + 4) (length f) ≡ a → (b : Bool) → leb (lengthAt f p) limit ≡ b → (d : Bool) → leb (p + 4 + lengthAt f p) (length f) ≡ d → q ≡ p + 4 + lengthAt f p
+    go false x b y d z = absurd (never (sym (one-cut limit f p (leb-false _ _ x)) ∙ e))
+    go true x false y d z = absurd (never (sym (one-long limit f p (leb-true _ _ x) (leb-false _ _ y)) ∙ e))
+    go true x true y false z = absurd (never (sym (one-short limit f p (leb-true _ _ x) (leb-true _ _ y) (leb-false _ _ z)) ∙ e))
+    go true x true y true z = same (sym e ∙ one-whole limit f p (leb-true _ _ x) (leb-true _ _ y) (leb-true _ _ z))
+
+pub part-is : (f : List ℕ) (q : ℕ) {e : ℕ} → e ≡ q + 4 + lengthAt f q → record { offset = q + 4; size = e - (q + 4) } ≡ partAt f q
+part-is f q {e} g =
+    let z : e - (q + 4) ≡ lengthAt f q = omega arith in
+    ap (λ (n : ℕ). record { offset = q + 4; size = n }) z
+
+-- ---- the views of both kinds
+module _ (w h : ℕ) (f : List ℕ) (slice : ℕ) where
+  pub dc-nth : {limit at : ℕ} {a : Answer View} → limit ≡ maxDcLen w → at ≡ formatAt f → a ≡ nthStream slice limit f (at + 3) → a ≡ kindView false w h f slice
+  dc-nth p q e = rw (← p, ← q) e
+
+  pub ac-nth-no : {n : ℕ} → dcStreams w h f ≡ refused n → kindView true w h f slice ≡ refused n
+  ac-nth-no e = rw e
+
+  pub ac-nth : (q : ℕ) {limit : ℕ} {a : Answer View} → limit ≡ maxAcLen w → a ≡ nthStream slice limit f q → dcStreams w h f ≡ accepted q → a ≡ kindView true w h f slice
+  ac-nth q p e d = rw (d, ← p) e
+
+-- ---- question 14 and the view
+module _ (w h : ℕ) (f : List ℕ) (ac : Bool) (slice : ℕ) where
+  pub view-no : {n : ℕ} → parseOf w h f ≡ refused n → viewOf w h f ac slice ≡ refused n
+  unfolding viewOf
+  view-no e = rw e
+
+  module _ {r : FrameRead} (e : parseOf w h f ≡ accepted r) where
+    pub view-beyond : sliceCount h ≤ slice → viewOf w h f ac slice ≡ refused 14
+    unfolding viewOf asked firstNo
+    view-beyond k = rw (e, le-ltb slice (sliceCount h) k)
+
+    pub view-unwanted : slice < sliceCount h → wanted ac r ≡ false → viewOf w h f ac slice ≡ refused 14
+    unfolding viewOf asked firstNo
+    view-unwanted k d = rw (e, lt-ltb slice (sliceCount h) k, d)
+
+    pub view-yes : slice < sliceCount h → wanted ac r ≡ true → viewOf w h f ac slice ≡ kindView ac w h f slice
+    unfolding viewOf asked firstNo
+    view-yes k d = rw (e, lt-ltb slice (sliceCount h) k, d)
+
+-- ---- a view lies in the frame
+module _ (f : List ℕ) where
+  abbrev Held : Answer View → Type 0
+  Held (refused m) = Unit {0}
+  Held (accepted v) = v .offset + v .size ≤ length f
+
+  one-held : (limit q : ℕ) → Held (andThen (oneStream limit f q) (λ e. accepted (partAt f q)))
+  one-held limit q = go (oneStream limit f q) refl
+    where
+      go : (a : Answer ℕ) → oneStream limit f q ≡ a → Held (andThen a (λ e. accepted (partAt f q)))
+      go (refused m) x = tt
+      go (accepted r) x = omega (arith, one-end limit f q x, one-inside limit f q r x)
+
+  nth-held : (n limit p : ℕ) → Held (nthStream n limit f p)
+  unfolding nthStream
+  nth-held n limit p = go (streams n limit f p)
+    where
+      go : (a : Answer ℕ) → Held (andThen a (λ q. andThen (oneStream limit f q) (λ e. accepted (partAt f q))))
+      go (refused m) = tt
+      go (accepted q) = one-held limit q
+
+  after-held : {A : Type 0} (a : Answer A) (k : A → Answer View) → ((x : A) → Held (k x)) → Held (andThen a k)
+  after-held (refused m) k h = tt
+  after-held (accepted x) k h = h x
+
+  number-held : (n : ℕ) (a : Answer View) → Held a → Held (byNumber n a)
+  number-held zero a h = h
+  number-held (suc n) a h = tt
+
+pub view-inside : (w h : ℕ) (f : List ℕ) (ac : Bool) (slice : ℕ) {v : View} → viewOf w h f ac slice ≡ accepted v → v .offset + v .size ≤ length f
+unfolding viewOf asked
+view-inside w h f ac slice {v} e =
+    rw e at
+    (after-held f (parseOf w h f) (λ r. byNumber (firstNo (ask (ltb slice (sliceCount h) && wanted ac r) 14 ∷ [])) (kindView ac w h f slice))
+    (λ r. number-held f (firstNo (ask (ltb slice (sliceCount h) && wanted ac r) 14 ∷ [])) (kindView ac w h f slice)
+    (after-held f (kindStart ac w h f) (λ p. nthStream slice (kindLimit ac w) f p) (λ p. nth-held f slice (kindLimit ac w) p))))
+
+pub part-size : (p n : ℕ) → p + n - p ≡ n
+part-size p n = omega arith

@@ -1,7 +1,7 @@
 -- Reading a frame. Document 01, 'Frame' and the order of a frame's questions.
 use mathlib.Core.Bool.{Bool, true, false, _&&_, cond}
 use mathlib.Core.List.{List, [], _∷_}
-use Prim.Native.Nat.{ℕ, zero, suc, _+_, _-_, _*_, _%_}
+use Prim.Native.Nat.{ℕ, zero, suc, _+_, _-_, _*_, _%_, _≤_}
 use lib.Dec.{leb, ltb, eqb}
 use lib.ListN.{length, getD, take, drop}
 use Rattle.ask.specs.Ask.{Answer, refused, accepted, Question, ask, asked, andThen}
@@ -62,6 +62,12 @@ headerQuestions w h f =
     ∷ ask (leb (shiftIn f) 15) 2
     ∷ ask (countOk h f) 12 ∷ []
 
+-- what the header's questions leave: a legal size and five bytes at least
+pub record Legal (w h : ℕ) (f : List ℕ) : Type 0 where
+  pub wide : w ≤ 7680
+  pub high : h ≤ 4320
+  pub five : 5 ≤ length f
+
 -- what is read of a frame. `dcEnd` is the place behind the DC streams: what lies there decides whether there is AC
 pub record FrameRead : Type 0 where
   pub interlaced : Bool
@@ -120,12 +126,18 @@ abbrev pub wanted : Bool → FrameRead → Bool
 wanted false r = true
 wanted true r = r .acThere
 
+-- the stream of a slice is found by walking over those before it
+unfoldable pub nthStream : ℕ → ℕ → List ℕ → ℕ → Answer View
+nthStream n limit f p = andThen (streams n limit f p) (λ q. andThen (oneStream limit f q) (λ e. accepted (partAt f q)))
+
+abbrev pub kindView : Bool → ℕ → ℕ → List ℕ → ℕ → Answer View
+kindView ac w h f slice = andThen (kindStart ac w h f) (λ p. nthStream slice (kindLimit ac w) f p)
+
 unfoldable pub viewOf : ℕ → ℕ → List ℕ → Bool → ℕ → Answer View
 viewOf w h f ac slice =
     andThen (parseOf w h f) (λ r.
     asked (ask (ltb slice (sliceCount h) && wanted ac r) 14 ∷ [])
-    (andThen (kindStart ac w h f) (λ p.
-    andThen (streams slice (kindLimit ac w) f p) (λ q. accepted (partAt f q)))))
+    (kindView ac w h f slice))
 
 -- "A refusal yields the number, .. an empty part for a view"
 abbrev pub viewPart : List ℕ → Answer View → List ℕ

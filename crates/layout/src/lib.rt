@@ -4,11 +4,12 @@
 // after a 32-bit length, low byte first. The header is a format byte, the quality and the slice count modulo 256; a
 // format byte of 3 is followed by the DC shift and a second format byte.
 ghost use mathlib.Core.Path.{_≡_};
+ghost use mathlib.Core.Bool.{true, false};
 ghost use Prim.Native.Nat.{_+_, _≤_, _<_};
 ghost use lib.ListN.{length};
 ghost use Rattle.ask.specs.Ask.{firstNo, numberIn};
 ghost use Rattle.layout.specs.Geometry.{alignUp, sizeOk, lumaStride, chromaStride, alignedHeight, sliceCount, maxDcLen, maxAcLen, interlaceCapable, layoutOf, imageRowOf, previewWidth, previewHeight};
-ghost use Rattle.layout.specs.Frame.{lengthAt, oneStream, streams, headerQuestions, formatAt, shiftIn, countOk, isInterlaced, frameRead, parseOf, viewOf, viewPart};
+ghost use Rattle.layout.specs.Frame.{lengthAt, oneStream, streams, headerQuestions, formatAt, shiftIn, countOk, isInterlaced, frameRead, parseOf, nthStream, Legal, kindView, viewOf, viewPart};
 ghost use Rattle.layout.specs.Views.{layoutSays, rowSays, placeSays, headerSays, frameSays, isAc, viewSays};
 
 // The geometry of one frame size: strides in samples, stream limits in bytes.
@@ -355,6 +356,91 @@ pub fn parse(width: usize, height: usize, frame: &[u8]) -> FrameAnswer
             } else {
                 FrameAnswer::Frame(header_of(height, frame, false))
             }
+        }
+    }
+}
+
+// The stream behind n others from p on.
+fn nth_stream(f: &[u8], n: usize, limit: usize, p: usize) -> ViewAnswer
+    requires { ⌜ p ≤ length (now f) ⌝ }
+    ensures { λ r. ⌜ viewSays r ≡ nthStream n limit (now (f .entry)) p ⌝ }
+{
+    match walk(f, n, limit, p) {
+        Place::Refused(x) => ViewAnswer::Refused(x),
+        Place::At(q) => match one_stream(f, limit, q) {
+            Place::Refused(x) => ViewAnswer::Refused(x),
+            Place::At(e) => ViewAnswer::Part(q + 4, e - (q + 4)),
+        },
+    }
+}
+
+// The DC stream of a slice, in a frame whose header is legal.
+fn dc_view(width: usize, height: usize, frame: &[u8], slice: usize) -> ViewAnswer
+    requires { ⌜ Legal width height (now frame) ⌝ }
+    ensures { λ r. ⌜ viewSays r ≡ kindView false width height (now (frame .entry)) slice ⌝ }
+{
+    let at = format_at(frame);
+    nth_stream(frame, slice, max_dc_len(width), at + 3)
+}
+
+// The AC stream of a slice, in a frame whose header is legal.
+fn ac_view(width: usize, height: usize, frame: &[u8], slice: usize) -> ViewAnswer
+    requires { ⌜ Legal width height (now frame) ⌝ }
+    ensures { λ r. ⌜ viewSays r ≡ kindView true width height (now (frame .entry)) slice ⌝ }
+{
+    let at = format_at(frame);
+    match walk(frame, slice_count(height), max_dc_len(width), at + 3) {
+        Place::Refused(x) => ViewAnswer::Refused(x),
+        Place::At(q) => nth_stream(frame, slice, max_ac_len(width), q),
+    }
+}
+
+// Where the DC or AC stream of a slice lies in the frame, and its length.
+pub fn view_at(width: usize, height: usize, frame: &[u8], kind: Kind, slice: usize) -> ViewAnswer
+    ensures { λ r. ⌜ viewSays r ≡ viewOf width height (now (frame .entry)) (isAc kind) slice ⌝ }
+{
+    match parse(width, height, frame) {
+        FrameAnswer::Refused(x) => ViewAnswer::Refused(x),
+        FrameAnswer::Frame(h) => {
+            if slice < slice_count(height) {
+                match kind {
+                    Kind::Dc => dc_view(width, height, frame, slice),
+                    Kind::Ac => {
+                        if h.ac {
+                            ac_view(width, height, frame, slice)
+                        } else {
+                            ViewAnswer::Refused(14)
+                        }
+                    }
+                }
+            } else {
+                ViewAnswer::Refused(14)
+            }
+        }
+    }
+}
+
+// The DC or AC stream of a slice, as that part of the caller's frame; an empty part where it is refused. The number of
+// the refusal, 0 where there is none, stands beside it.
+pub fn stream<'a>(
+    width: usize,
+    height: usize,
+    frame: &'a [u8],
+    kind: Kind,
+    slice: usize,
+    number: &mut u32,
+) -> &'a [u8]
+    ensures { λ r. ⌜ (now r ≡ viewPart (now (frame .entry)) (viewOf width height (now (frame .entry)) (isAc kind) slice)) × (now (number .exit) ≡ numberIn (viewOf width height (now (frame .entry)) (isAc kind) slice)) ⌝ }
+{
+    match view_at(width, height, frame, kind, slice) {
+        ViewAnswer::Refused(x) => {
+            *number = x;
+            &frame[0..0]
+        }
+        ViewAnswer::Part(p, n) => {
+            *number = 0;
+            let e = p + n;
+            &frame[p..e]
         }
     }
 }

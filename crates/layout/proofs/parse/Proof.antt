@@ -17,7 +17,7 @@ returns c =
 slice-count-requires : tie.Need-slice-count-requires
 slice-count-requires c κs =
     let a = c .before .before .before .args in
-    legal (a .width) (a .height) (a .frame .now) (omega arith) .size .high
+    legal (a .width) (a .height) (a .frame .now) (omega arith) .high
 
 format-at-requires : tie.Need-format-at-requires
 format-at-requires c κs =
@@ -27,7 +27,7 @@ format-at-requires c κs =
 max-dc-len-requires : tie.Need-max-dc-len-requires
 max-dc-len-requires c κs =
     let a = c .before .before .before .before .before .args in
-    legal (a .width) (a .height) (a .frame .now) (omega arith) .size .wide
+    legal (a .width) (a .height) (a .frame .now) (omega arith) .wide
 
 add-walk : tie.Need-add-walk
 add-walk c = omega (arith, format-small (c .before .before .before .before .before .before .args .frame .now))
@@ -41,7 +41,7 @@ max-ac-len-requires : tie.Need-max-ac-len-requires
 max-ac-len-requires c κs =
     let n = c .before .before .before .before .before .before .before .before in
     let a = n .before .before .before .args in
-    legal (a .width) (a .height) (a .frame .now) (omega (arith, n .if1 .left, n .before .header-number .ensures)) .size .wide
+    legal (a .width) (a .height) (a .frame .now) (omega (arith, n .if1 .left, n .before .header-number .ensures)) .wide
 
 header-of-requires : tie.Need-header-of-requires
 header-of-requires c κs =

@@ -53,9 +53,13 @@ loop-again c =
     let l = t .before .before in
     let a = l .before .before .args in
     let e : place.At (c .before .q .given .0 .0) ≡ t .one-stream .result = cc in
-    let g = sym (ap placeSays e ∙ t .one-stream .ensures) in
-    (omega arith, (one-inside (a .limit) (a .f .now) (l .loop .at) _ g,
-    next-turn (a .n) (a .limit) (a .f .now) (a .p) (l .loop .k) (l .loop .at) (omega arith) (l .loop .inv .1 .1) g))
+    let g = sym (ap placeSays e ∙ t .one-stream .ensures) in (
+      omega arith,
+      (
+        one-inside (a .limit) (a .f .now) (l .loop .at) _ g,
+        next-turn (a .n) (a .limit) (a .f .now) (a .p) (l .loop .k) (l .loop .at) (omega arith) (l .loop .inv .1 .1) g,
+      ),
+    )
 
 returns-2 : tie.Need-returns-2 Inv-loop μ-loop
 returns-2 c =

@@ -40,13 +40,14 @@ returns : tie.Need-returns
 returns c =
     let t = c .before .before .before .before .before .before in
     let a = t .before .before .args in
-    rw
-    (c .max-ac-len .ensures,
-    c .before .max-dc-len .ensures,
-    c .before .before .slice-count .ensures,
-    c .before .before .before .aligned-height .ensures,
-    c .before .before .before .before .align82 .ensures,
-    c .before .before .before .before .before .align8 .ensures)
+    rw (
+      c .max-ac-len .ensures,
+      c .before .max-dc-len .ensures,
+      c .before .before .slice-count .ensures,
+      c .before .before .before .aligned-height .ensures,
+      c .before .before .before .before .align82 .ensures,
+      c .before .before .before .before .before .align8 .ensures,
+    )
     (sym (fits (a .width) (a .height) (sym (t .before .size-ok .ensures) ∙ t .if1 .taken)))
 
 returns-2 : tie.Need-returns-2
