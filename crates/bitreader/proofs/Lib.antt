@@ -1,0 +1,5 @@
+pub mod Num
+pub mod Words
+pub mod Leads
+pub mod Spans
+pub mod Looks

@@ -1,0 +1,34 @@
+-- `bitreader::next_symbol` meets its contract: where the look finds a longer code, the slow path reads it. Assumes nothing.
+use native.Mathlib.Omega.{arith}
+use Rattle.bitreader.proofs.Looks.{head-two, long-next, long-symbol}
+use borrow.Author.Needs.{needs}
+use Rattle.bitreader.proofs.next_symbol.Statement.{statement}
+use Rattle.bitreader.proofs.next_symbol.Tie as tie
+
+quick-requires : tie.Need-quick-requires
+quick-requires c κs = search needs
+
+longer-requires : tie.Need-longer-requires
+longer-requires c κs =
+    let q = c .before .before .before .quick in
+    let a = c .before .before .before .before .before .args in
+    let t = c .before .if1 .taken in
+    (q .ensures .0 .next .ready, omega (arith, q .ensures .0 .stays t), head-two (a .s .now) (a .c) (q .result) (q .ensures .0 .next))
+
+returns : tie.Need-returns
+returns c =
+    let q = c .before .before .before .before .quick in
+    let a = c .before .before .before .before .before .before .args in
+    let t = c .before .before .if1 .taken in
+    let n = q .ensures .0 .next in
+    let m = head-two (a .s .now) (a .c) (q .result) n in
+    record {
+      next = long-next (a .s .now) (a .c) (q .result .run) (q .result) (q .ensures .0) t (c .longer .result) (omega (arith, m)) (c .longer .ensures) (n .head);
+      answer = long-symbol (a .s .now) (a .c) (q .result .run) (q .result) (q .ensures .0) t (c .longer .result) (omega (arith, m)) (c .longer .ensures) (n .head);
+    }
+
+returns-2 : tie.Need-returns-2
+returns-2 c = let q = c .before .before .quick in record { next = q .ensures .0 .next; answer = q .ensures .1 (omega arith) }
+
+pub next-symbol-spec : {M : Type 1} → statement M
+next-symbol-spec = tie.close (tie.spec quick-requires longer-requires returns returns-2)

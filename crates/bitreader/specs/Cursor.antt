@@ -1,0 +1,65 @@
+-- A cursor over a stream, and what it reads. Document 01, 'Bits and symbols'; "BitReader and AcCursor: stream and position passed separately".
+use mathlib.Core.Path.{_≡_}
+use mathlib.Core.Bool.{false}
+use mathlib.Core.List.{List}
+use Prim.Native.Nat.{ℕ, zero, suc, _+_, _-_, _*_, _^_, _≤_, _<_}
+use lib.Count.{leadingZeros}
+use Rattle.bits.specs.Bits.{bit, bitAt}
+use Rattle.bits.specs.Read.{readTail, Symbol, badSymbol, run, value, readSymbol, DcCode, badDc, zeroStep, step, readDc}
+use Rattle.bitreader.specs.Word.{Holds, numberOf}
+use Rattle.bitreader.specs.declared.AcCursor.{AcCursor}
+use Rattle.bitreader.specs.declared.Got.{Got}
+
+-- the cursor holds the bits of s at its place
+pub record At (s : List ℕ) (c : AcCursor) : Type 0 where
+  pub most : c .count ≤ 64
+  pub holds : Holds s (c .pos) (c .count) (c .bits)
+
+-- the symbol that was got: its number, its head bit, the place behind it. Number 0 is a bad code
+abbrev pub symbolBy : ℕ → ℕ → ℕ → Symbol
+symbolBy zero r q = badSymbol
+symbolBy (suc n) zero q = value (suc n) q
+symbolBy (suc n) (suc r) q = run (suc n) q
+
+abbrev pub symbolOf : Got → Symbol
+symbolOf g = symbolBy (g .num) (g .run) (g .c .pos)
+
+-- the same of a code of the DC stream
+abbrev pub dcBy : ℕ → ℕ → ℕ → DcCode
+dcBy zero r q = badDc
+dcBy (suc n) zero q = step (suc n) q
+dcBy (suc n) (suc r) q = zeroStep q
+
+abbrev pub dcOf : Got → DcCode
+dcOf g = dcBy (g .num) (g .run) (g .c .pos)
+
+-- what holds of all that is got at the cursor c: the next cursor, at most 112 bits on; the head bit; a number of at most 56 bits
+pub record Next (s : List ℕ) (c : AcCursor) (g : Got) : Type 0 where
+  pub ready : At s (g .c)
+  pub head : g .run ≡ bit (bitAt s (c .pos))
+  pub small : g .num < 2 ^ 56
+  pub near : g .c .pos ≤ c .pos + 112
+
+pub record NextSymbol (s : List ℕ) (c : AcCursor) (g : Got) : Type 0 where
+  pub next : Next s c g
+  pub answer : symbolOf g ≡ readSymbol (bitAt s) (c .pos)
+
+pub record NextDc (s : List ℕ) (c : AcCursor) (g : Got) : Type 0 where
+  pub next : Next s c g
+  pub answer : dcOf g ≡ readDc (bitAt s) (c .pos)
+
+-- ---- inner functions
+
+-- 31 bits were looked at, e of them the head: number 0 where the code is longer, and then a zero stands behind the head
+pub record Looked (s : List ℕ) (c : AcCursor) (e : ℕ) (g : Got) : Type 0 where
+  pub next : Next s c g
+  pub stays : g .num ≡ 0 → g .c .pos ≡ c .pos
+  pub long : g .num ≡ 0 → bitAt s (c .pos + e) ≡ false
+
+-- a tail of any length was read, behind the head r at c
+pub record Long (s : List ℕ) (c : AcCursor) (r : ℕ) (g : Got) : Type 0 where
+  pub ready : At s (g .c)
+  pub head : g .run ≡ r
+  pub answer : g .num ≡ numberOf (readTail (bitAt s) (c .pos + 1 + r))
+  pub stays : g .num ≡ 0 → g .c .pos ≡ c .pos
+  pub goes : 0 < g .num → g .c .pos ≡ c .pos + (2 * (64 - leadingZeros 64 (g .num)) + r - 1)

@@ -1,0 +1,237 @@
+// Reading bits and symbols (bits.rs, BitReader and AcCursor). Stream and position are passed separately.
+// A bit position counts from the stream's start, the highest bit of a byte first; past the end every bit is one.
+ghost use mathlib.Core.Path.{_≡_};
+ghost use Prim.Native.Nat.{ℕ, _+_, _-_, _*_, _/_, _%_, _^_, _≤_, _<_};
+ghost use lib.ListN.{length, getD};
+ghost use Rattle.bits.specs.Bits.{bitAt, num, bytesFor};
+ghost use Rattle.bits.specs.Read.{readTail, readSymbol, readDc};
+ghost use Rattle.bitreader.specs.Word.{Holds, eight, numberOf};
+ghost use Rattle.bitreader.specs.Cursor.{At, symbolOf, dcOf, NextSymbol, NextDc, Looked, Long};
+
+// A place in a stream, with the next bits at the top of a word.
+pub struct AcCursor {
+    pub pos: usize,
+    pub bits: u64,
+    pub count: u32,
+}
+
+// What was read: the head bit (1: a run, or a zero step), the number (0: a bad code), and the cursor behind it.
+pub struct Got {
+    pub run: u64,
+    pub num: u64,
+    pub c: AcCursor,
+}
+
+// A byte of the stream; past the end every bit is one.
+fn byte(s: &[u8], i: usize) -> u8
+    ensures { λ r. ⌜ r ≡ getD (now (s .entry)) i 255 ⌝ }
+{
+    if i < s.len() { s[i] } else { 255 }
+}
+
+// Eight bytes put together, the first the highest. In this form the compiler makes one load and a byte swap of it.
+fn join8(a: u8, b: u8, c: u8, d: u8, e: u8, f: u8, g: u8, h: u8) -> u64
+    ensures { λ r. ⌜ r ≡ eight a b c d e f g h ⌝ }
+{
+    ((a as u64) << 56)
+        | ((b as u64) << 48)
+        | ((c as u64) << 40)
+        | ((d as u64) << 32)
+        | ((e as u64) << 24)
+        | ((f as u64) << 16)
+        | ((g as u64) << 8)
+        | (h as u64)
+}
+
+// Eight whole bytes of the stream as a number.
+fn word(s: &[u8], i: usize) -> u64
+    requires { ⌜ i + 8 ≤ length (now s) ⌝ }
+    ensures { λ r. ⌜ r ≡ num 64 0 (bitAt (now (s .entry))) (8 * i) ⌝ }
+{
+    join8(
+        s[i],
+        s[i + 1],
+        s[i + 2],
+        s[i + 3],
+        s[i + 4],
+        s[i + 5],
+        s[i + 6],
+        s[i + 7],
+    )
+}
+
+// The same anywhere.
+fn edge(s: &[u8], i: usize) -> u64
+    requires { ⌜ i < 2 ^ 62 ⌝ }
+    ensures { λ r. ⌜ r ≡ num 64 0 (bitAt (now (s .entry))) (8 * i) ⌝ }
+{
+    let mut w: u64 = 0;
+    let mut k: usize = 0;
+    while k < 8 {
+        w = w * 256 + byte(s, i + k) as u64;
+        k += 1;
+    }
+    w
+}
+
+// The bits from p on, at the top of a word: 57 of them at least.
+fn peek(s: &[u8], p: usize) -> u64
+    requires { ⌜ p < 2 ^ 62 ⌝ }
+    ensures { λ r. ⌜ Holds (now (s .entry)) p (64 - p % 8) r ⌝ }
+{
+    let i = p / 8;
+    let k = (p % 8) as u32;
+    if i + 8 <= s.len() {
+        word(s, i) << k
+    } else {
+        edge(s, i) << k
+    }
+}
+
+// A cursor at p.
+pub fn cursor(s: &[u8], p: usize) -> AcCursor
+    requires { ⌜ p < 2 ^ 62 ⌝ }
+    ensures { λ r. ⌜ At (now (s .entry)) r × (r .pos ≡ p) × (56 < r .count) ⌝ }
+{
+    let k = (p % 8) as u32;
+    AcCursor {
+        pos: p,
+        bits: peek(s, p),
+        count: 64 - k,
+    }
+}
+
+// The byte at or behind a cursor's place, where what was read ends.
+pub fn end_byte(c: AcCursor) -> usize
+    requires { ⌜ c .pos < 2 ^ 62 ⌝ }
+    ensures { λ r. ⌜ r ≡ bytesFor (c .pos) ⌝ }
+{
+    (c.pos + 7) / 8
+}
+
+// n bits further.
+fn skip(c: AcCursor, n: u32) -> AcCursor
+    requires { ⌜ (n ≤ c .count) × (n < 64) × (c .pos < 2 ^ 62) ⌝ }
+    ensures { λ r. ⌜ (r .pos ≡ c .pos + n) × (r .count ≡ c .count - n) × (r .bits ≡ (c .bits * 2 ^ n) % 2 ^ 64) ⌝ }
+{
+    AcCursor {
+        pos: c.pos + n as usize,
+        bits: c.bits << n,
+        count: c.count - n,
+    }
+}
+
+// The cursor with at least 32 bits.
+fn filled(s: &[u8], c: AcCursor) -> AcCursor
+    requires { ⌜ At (now s) c × (c .pos < 2 ^ 62) ⌝ }
+    ensures { λ r. ⌜ At (now (s .entry)) r × (r .pos ≡ c .pos) × (31 < r .count) ⌝ }
+{
+    if c.count < 32 { cursor(s, c.pos) } else { c }
+}
+
+// The y + 1 bits behind the y highest.
+fn digits(t: u64, y: u32) -> u64
+    requires { ⌜ y < 32 ⌝ }
+    ensures { λ r. ⌜ r ≡ ((t * 2 ^ y) % 2 ^ 64) / 2 ^ (63 - y) ⌝ }
+{
+    (t << y) >> (63 - y)
+}
+
+// The symbol at a cursor by one look at 31 bits, the same for all three kinds: run is the head, y zeros follow. Number 0: it is longer.
+fn quick(s: &[u8], c0: AcCursor) -> Got
+    requires { ⌜ At (now s) c0 × (c0 .pos < 2 ^ 60) ⌝ }
+    ensures { λ r. ⌜ Looked (now (s .entry)) c0 (r .run) r × (0 < r .num → symbolOf r ≡ readSymbol (bitAt (now (s .entry))) (c0 .pos)) ⌝ }
+{
+    let c = filled(s, c0);
+    let run = c.bits >> 63;
+    let t = c.bits << run;
+    let y = u64::leading_zeros(t);
+    if y > 14 {
+        return Got { run, num: 0, c };
+    }
+    Got {
+        run,
+        num: digits(t, y),
+        c: skip(c, 2 * y + 1 + run as u32),
+    }
+}
+
+// The same of the DC stream, where the head's second bit counts for nothing.
+fn quick_dc(s: &[u8], c0: AcCursor) -> Got
+    requires { ⌜ At (now s) c0 × (c0 .pos < 2 ^ 60) ⌝ }
+    ensures { λ r. ⌜ Looked (now (s .entry)) c0 0 r × (0 < r .num → dcOf r ≡ readDc (bitAt (now (s .entry))) (c0 .pos)) ⌝ }
+{
+    let c = filled(s, c0);
+    let run = c.bits >> 63;
+    let t = c.bits;
+    let y = u64::leading_zeros(t);
+    if y > 14 {
+        return Got { run, num: 0, c };
+    }
+    Got {
+        run,
+        num: digits(t, y),
+        c: skip(c, 2 * y + 1 + run as u32),
+    }
+}
+
+// The number behind a head, 0 for a bad code. A number alone comes back, so that nothing of a cursor goes through memory.
+fn long_number(s: &[u8], p: usize) -> u64
+    requires { ⌜ p < 2 ^ 61 ⌝ }
+    ensures { λ r. ⌜ r ≡ numberOf (readTail (bitAt (now (s .entry))) p) ⌝ }
+{
+    let z = u64::leading_zeros(peek(s, p));
+    if z > 54 {
+        return 0;
+    }
+    peek(s, p + z as usize) >> (62 - z)
+}
+
+// A code of any length behind the head run; its own length is that of its number's digits.
+fn longer(s: &[u8], c: AcCursor, run: u64) -> Got
+    requires { ⌜ At (now s) c × (c .pos < 2 ^ 60) × (run < 2) ⌝ }
+    ensures { λ r. ⌜ Long (now (s .entry)) c run r ⌝ }
+{
+    let v = long_number(s, c.pos + 1 + run as usize);
+    if v == 0 {
+        return Got { run, num: 0, c };
+    }
+    let n = 2 * (64 - u64::leading_zeros(v)) + run as u32 - 1;
+    Got {
+        run,
+        num: v,
+        c: AcCursor {
+            pos: c.pos + n as usize,
+            bits: 0,
+            count: 0,
+        },
+    }
+}
+
+// The symbol of the AC stream at a cursor: `0` value, `10` run, `11` run of 1; number 0 is a bad code.
+pub fn next_symbol(s: &[u8], c: AcCursor) -> Got
+    requires { ⌜ At (now s) c × (c .pos < 2 ^ 60) ⌝ }
+    ensures { λ r. ⌜ NextSymbol (now (s .entry)) c r ⌝ }
+{
+    let g = quick(s, c);
+    if g.num == 0 {
+        let d = g.c;
+        longer(s, d, g.run)
+    } else {
+        g
+    }
+}
+
+// The code of the DC stream at a cursor: a first bit of one is a zero step; number 0 is a bad code.
+pub fn next_dc(s: &[u8], c: AcCursor) -> Got
+    requires { ⌜ At (now s) c × (c .pos < 2 ^ 60) ⌝ }
+    ensures { λ r. ⌜ NextDc (now (s .entry)) c r ⌝ }
+{
+    let g = quick_dc(s, c);
+    if g.num == 0 {
+        let d = g.c;
+        longer(s, d, 0)
+    } else {
+        g
+    }
+}
