@@ -5,3 +5,9 @@ pub mod DcBack
 pub mod DcNear
 pub mod PlaneBack
 pub mod Size
+pub mod Law
+pub mod Asked
+pub mod CodeList
+pub mod BlocksBack
+pub mod ReadList
+pub mod Demand3

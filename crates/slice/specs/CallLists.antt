@@ -54,6 +54,14 @@ bookNumber f k c = firstNo (codingQuestions c (f .lengths) (bookAt f k))
 abbrev pub putBehind : Book → Buffers → Book
 putBehind k own = record { dcRow = k .dcRow ++ own .dcBytes; acRow = k .acRow ++ own .acBytes }
 
+abbrev pub ifAccepted : ℕ → List Plane → List Plane
+ifAccepted zero ps = ps
+ifAccepted (suc n) ps = []
+
+abbrev pub AtThese : Settings → ℕ → Call → Type 0
+AtThese σ zero c = settingsOf c ≡ σ
+AtThese σ (suc n) c = Unit {0}
+
 module _ (τ : Transform) where
   -- "and nothing changes; without one, each plane's own streams are put behind"
   abbrev pub bookBy : ℕ → Call → Book → Book
@@ -72,18 +80,10 @@ module _ (τ : Transform) where
   bookAnswers f k [] = []
   bookAnswers f k (c ∷ cs) = record { number = bookNumber f k c; at = bookAt f (bookNext f k c) } ∷ bookAnswers f (bookNext f k c) cs
 
-  abbrev pub ifAccepted : ℕ → List Plane → List Plane
-  ifAccepted zero ps = ps
-  ifAccepted (suc n) ps = []
-
   -- the planes of the accepted calls, in order
   unfoldable pub planesCoded : Fed → Book → List Call → List Plane
   planesCoded f k [] = []
   planesCoded f k (c ∷ cs) = ifAccepted (bookNumber f k c) (planesOf c) ++ planesCoded f (bookNext f k c) cs
-
-  abbrev pub AtThese : Settings → ℕ → Call → Type 0
-  AtThese σ zero c = settingsOf c ≡ σ
-  AtThese σ (suc n) c = Unit {0}
 
   -- "the accepted ones at one depth, preset and DC shift"
   unfoldable pub OneSetting : Settings → Fed → Book → List Call → Type 0
@@ -115,21 +115,21 @@ pub record Shape : Type 0 where
 abbrev pub shape : Plane → Shape
 shape p = record { place = p .place; stride = p .stride }
 
-module _ (τ : Transform) where
-  -- "A call has the same depth, preset and shift and the next unread planes' places and strides, or meets a "no" before question 8."
-  abbrev pub FollowsBy : ℕ → Settings → List Plane → Call → (List Plane → Type 0) → Type 0
-  FollowsBy zero σ unread c next =
-      (settingsOf c ≡ σ) × (map shape (planesOf c) ≡ map shape (take (length (planesOf c)) unread)) × next (drop (length (planesOf c)) unread)
-  FollowsBy (suc n) σ unread c next = next unread
+-- "A call has the same depth, preset and shift and the next unread planes' places and strides, or meets a "no" before question 8."
+abbrev pub FollowsBy : ℕ → Settings → List Plane → Call → (List Plane → Type 0) → Type 0
+FollowsBy zero σ unread c next =
+    (settingsOf c ≡ σ) × (map shape (planesOf c) ≡ map shape (take (length (planesOf c)) unread)) × next (drop (length (planesOf c)) unread)
+FollowsBy (suc n) σ unread c next = next unread
 
+abbrev pub blocksIn : ℕ → PlanesRead → List (List BlockRead)
+blocksIn (suc n) r = []
+blocksIn zero badPlanes = []
+blocksIn zero (planesRead bs end) = bs
+
+module _ (τ : Transform) where
   unfoldable pub Follows : Settings → List Plane → List Call → Buffers → PerStream → Type 0
   Follows σ unread [] b at = Unit {0}
   Follows σ unread (c ∷ cs) b at = FollowsBy (numberBefore8 c b at) σ unread c (λ rest. Follows σ rest cs b (decode τ c b at .at))
-
-  abbrev pub blocksIn : ℕ → PlanesRead → List (List BlockRead)
-  blocksIn (suc n) r = []
-  blocksIn zero badPlanes = []
-  blocksIn zero (planesRead bs end) = bs
 
   -- what the accepted calls of a list read, plane by plane
   unfoldable pub blocksRead : List Call → Buffers → PerStream → List (List BlockRead)

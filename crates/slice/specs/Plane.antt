@@ -50,11 +50,15 @@ blockAt stride i = i / stride / 8 * columnsOf stride + i % stride / 8
 abbrev pub withinBlock : ℕ → ℕ → ℕ
 withinBlock stride i = i / stride % 8 * 8 + i % stride % 8
 
-module _ (τ : Transform) where
-  -- the lanes of the block in block row j and block column k, row by row
-  unfoldable pub lanesAt : Depth → Plane → ℕ → ℕ → List ℤ
-  lanesAt depth p j k = tab 64 (λ i. laneOf depth (sampleAt p (8 * j + i / 8) (8 * k + i % 8)))
+-- the lanes of the block in block row j and block column k, row by row
+unfoldable pub lanesAt : Depth → Plane → ℕ → ℕ → List ℤ
+lanesAt depth p j k = tab 64 (λ i. laneOf depth (sampleAt p (8 * j + i / 8) (8 * k + i % 8)))
 
+-- "Each block is decoded into the part of the lent rows that begins at its corner; the rest of the rows stays."
+abbrev pub sampleFrom : List (List ℕ) → ℕ → ℕ → ℕ → ℕ
+sampleFrom blocks stride i old = cond (ltb i (16 * stride)) (getD (getD blocks (blockAt stride i) []) (withinBlock stride i) 0) old
+
+module _ (τ : Transform) where
   -- "A plane's coefficients are those after forward transform and quantiser", in scan order
   unfoldable pub blockCoefficients : Settings → Plane → ℕ → ℕ → List ℤ
   blockCoefficients σ p j k =
@@ -80,10 +84,6 @@ module _ (τ : Transform) where
 
   unfoldable pub samplesOf : Settings → ℕ → BlockRead → List ℕ
   samplesOf σ place b = byDepth (σ .depth) σ place b
-
-  -- "Each block is decoded into the part of the lent rows that begins at its corner; the rest of the rows stays."
-  abbrev pub sampleFrom : List (List ℕ) → ℕ → ℕ → ℕ → ℕ
-  sampleFrom blocks stride i old = cond (ltb i (16 * stride)) (getD (getD blocks (blockAt stride i) []) (withinBlock stride i) 0) old
 
   unfoldable pub reconstruct : Settings → Plane → List BlockRead → List ℕ
   reconstruct σ p blocks = remade (sampleFrom (map (samplesOf σ (p .place)) blocks) (p .stride)) 0 (p .samples)
