@@ -109,7 +109,7 @@ module _ (τ : Transform) (law : Law τ) (σ : Settings) where
       → b .dcBytes ≡ pd ++ (dcStream (σ .shift) (coefficients τ σ p) ++ qd) → b .acBytes ≡ pa ++ (acStream (coefficients τ σ p) ++ qa)
       → at .dc ≡ length pd → at .ac ≡ length pa
       → PlaneIs (σ .shift) (coefficients τ σ p) (b .dcBytes) (b .acBytes) (at .dc) (at .ac)
-        (at .dc + length (dcStream (σ .shift) (coefficients τ σ p))) (at .ac + length (acStream (coefficients τ σ p)))
+      (at .dc + length (dcStream (σ .shift) (coefficients τ σ p))) (at .ac + length (acStream (coefficients τ σ p)))
   plane-at p b pd qd pa qa at f e1 e2 e3 e4 =
       rw (e1, e2, e3, e4)
       (plane-back (σ .shift) (coefficients τ σ p) pd qd pa qa (blocks-fit τ law σ p (f .preset-le)) (omega (arith, count-is τ law σ p (f .preset-le), f .few)))

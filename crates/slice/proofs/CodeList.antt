@@ -133,19 +133,19 @@ module _ (τ : Transform) (law : Law τ) where
         let one = one-call c k h in
         let rest = list-coded cs (bookNext τ F k c) (one .1) in (
           ap {A = Coded} {B = CodedAll}
-            (λ x. record {
-              answers = record { number = x .number; at = x .at } ∷ encodeAll τ cs (x .buffers) (x .at) .answers;
-              at = encodeAll τ cs (x .buffers) (x .at) .at;
-              buffers = encodeAll τ cs (x .buffers) (x .at) .buffers;
-            })
-            (one .0)
-          ∙ ap {A = CodedAll} {B = CodedAll}
-            (λ x. record {
-              answers = record { number = bookNumber F k c; at = bookAt F (bookNext τ F k c) } ∷ x .answers;
-              at = x .at;
-              buffers = x .buffers;
-            })
-            (rest .0),
+              (λ x. record {
+                answers = record { number = x .number; at = x .at } ∷ encodeAll τ cs (x .buffers) (x .at) .answers;
+                at = encodeAll τ cs (x .buffers) (x .at) .at;
+                buffers = encodeAll τ cs (x .buffers) (x .at) .buffers;
+              })
+              (one .0)
+              ∙ ap {A = CodedAll} {B = CodedAll}
+              (λ x. record {
+                answers = record { number = bookNumber F k c; at = bookAt F (bookNext τ F k c) } ∷ x .answers;
+                at = x .at;
+                buffers = x .buffers;
+              })
+              (rest .0),
           rest .1,
         )
 
