@@ -46,6 +46,15 @@ impl Report {
         }
     }
 
+    /// Counts one comparison of `count` things at once.
+    #[inline]
+    pub fn many(&mut self, kind: Kind, equal: bool, count: u64, size: usize, text: impl FnOnce() -> String) {
+        self.check(kind, equal, size, text);
+        if equal {
+            self.kinds[kind.0].passed += count - 1;
+        }
+    }
+
     /// Compares two answers to one input.
     #[inline]
     pub fn same<A: PartialEq + Debug>(

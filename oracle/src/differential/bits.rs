@@ -2,6 +2,8 @@
 
 use super::Run;
 use crate::gen::streams::{self, Bits};
+use crate::gen::Rng;
+use crate::ours;
 use reference::api::bits::{self, AcSymbol, Cursor, Writer};
 
 pub fn run(run: &mut Run) {
@@ -22,39 +24,43 @@ fn signed(run: &mut Run) {
     }
 }
 
-/// A sequence of puts against the same bits put one by one.
+/// A sequence of codes, into a buffer that is full of other bytes: the stream,
+/// and nothing else, is changed.
 fn written(run: &mut Run) {
-    let kind = run.report.kind("bits: sequences written");
+    let kind = run.report.kind("bits: symbols written");
+    let rng = &mut run.rng;
     let mut w = Writer::default();
-    let mut b = Bits::default();
-    let count = run.rng.between(1, 40);
+    let count = if rng.once_in(4) { rng.between(1, 4) } else { rng.between(1, 200) };
+    let (mut kinds, mut runs, mut codes) = (vec![], vec![], vec![]);
     for _ in 0..count {
-        let v = 1 + (run.rng.next() as u32 >> run.rng.between(15, 31));
-        let n = run.rng.next() as u32 >> run.rng.between(8, 31);
-        let vl = 2 * (32 - v.leading_zeros()) as usize - 1;
-        match run.rng.below(3) {
-            0 => {
-                w.put_value(v);
-                b.put(v as u64, vl);
-            }
-            1 => {
-                w.put_run(n);
-                if n > 0 {
-                    b.run(n as u64);
-                }
-            }
-            _ => {
-                w.put_run_value(n, v);
-                if n > 0 {
-                    b.run(n as u64);
-                }
-                b.put(v as u64, vl);
-            }
+        let k = rng.below(3) as u8;
+        let (run_bits, code_bits) = [(0, 32), (31, 0), (17, 15)][k as usize];
+        let n = few_bits(rng, run_bits);
+        let v = few_bits(rng, code_bits).max(1);
+        match k {
+            0 => w.put_value(v),
+            1 => w.put_run(n),
+            _ => w.put_run_value(n, v),
         }
+        kinds.push(k);
+        runs.push(n);
+        codes.push(v);
     }
-    let len = w.len_bits();
     w.align();
-    run.report.same(kind, &(len, w.bytes()), &(b.len, &b.bytes[..]), len, || "a sequence".into());
+    let at = rng.below(20);
+    let before = rng.bytes(at + w.bytes().len() + 40);
+    let mut wanted = before.clone();
+    wanted[at..at + w.bytes().len()].copy_from_slice(w.bytes());
+    let mut out = before;
+    let end = ours::bits::write(&kinds, &runs, &codes, at, &mut out);
+    let equal = end == at + w.bytes().len() && out == wanted;
+    run.report.many(kind, equal, kinds.len() as u64, kinds.len(), || format!("from byte {at}: {kinds:?} {runs:?} {codes:?}"));
+}
+
+/// A number of at most `most` bits, all bit lengths equally often.
+fn few_bits(rng: &mut Rng, most: usize) -> u32 {
+    let n = rng.below(most + 1);
+    (rng.next() & ((1 << n) - 1)) as u32
 }
 
 /// A stream read by the cursor and bit by bit, from any bit on.

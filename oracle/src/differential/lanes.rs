@@ -81,31 +81,29 @@ fn unary(run: &mut Run) {
     }
 }
 
-/// Shuffles: each pattern that both paths have.
+/// Shuffles: each pattern; the SSE2 path has only those of dct.rs.
 fn shuffles(run: &mut Run) {
+    let path = |imm: u8| if PATTERNS.contains(&imm) { Path::Sse2 } else { Path::Portable };
     for op in SHUFFLES {
-        let kind = run.report.kind(format!("lanes: {op}"));
-        for imm in PATTERNS {
+        let kind = run.report.kind(format!("shuffles: {op}, all patterns"));
+        for imm in 0..=255 {
             let a = gen::row(&mut run.rng);
-            paths(run, kind, |p| lanes::shuffle(p, op, a, imm), || format!("{a:?} by {imm:#x}"));
+            let rust = |p: Path| lanes::shuffle(if p == Path::Sse2 { path(imm) } else { p }, op, a, imm);
+            three(run, kind, ours::shuffles::shuffle(op, a, imm), rust, || format!("{a:?} by {imm:#x}"));
         }
     }
-    let kind = run.report.kind("lanes: shuffle32");
-    for imm in PATTERNS {
+    let kind = run.report.kind("shuffles: shuffle32, all patterns");
+    for imm in 0..=255 {
         let a = gen::row32(&mut run.rng);
-        paths(run, kind, |p| lanes::shuffle32(p, a, imm), || format!("{a:?} by {imm:#x}"));
+        let rust = |p: Path| lanes::shuffle32(if p == Path::Sse2 { path(imm) } else { p }, a, imm);
+        three(run, kind, ours::shuffles::shuffle32(a, imm), rust, || format!("{a:?} by {imm:#x}"));
     }
-    let kind = run.report.kind("lanes: unpacklo32");
+    let kind = run.report.kind("shuffles: unpacklo32");
     let (a, b) = (gen::row(&mut run.rng), gen::row(&mut run.rng));
-    paths(run, kind, |p| lanes::unpacklo32(p, a, b), || format!("{a:?} {b:?}"));
-    let kind = run.report.kind("lanes: nonzero_mask");
+    three(run, kind, ours::shuffles::unpacklo32(a, b), |p| lanes::unpacklo32(p, a, b), || format!("{a:?} {b:?}"));
+    let kind = run.report.kind("shuffles: nonzero_mask");
     let zz = gen::planes::coefficients(&mut run.rng);
-    paths(run, kind, |p| lanes::nonzero_mask(p, &zz), || format!("{zz:?}"));
-}
-
-/// Compares both paths of the Rust only.
-fn paths<A: PartialEq + Debug>(run: &mut Run, kind: Kind, f: impl Fn(Path) -> A, input: impl FnOnce() -> String) {
-    run.report.same(kind, &f(Path::Portable), &f(Path::Sse2), 0, input);
+    three(run, kind, ours::shuffles::nonzero_mask(&zz), |p| lanes::nonzero_mask(p, &zz), || format!("{zz:?}"));
 }
 
 /// Operations with 32-bit lanes.

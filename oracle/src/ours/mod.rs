@@ -1,5 +1,7 @@
 //! The Rattle code, through its static libraries: what crosses the boundary is
 //! numbers, and slices as pointer and count.
 
+pub mod bits;
 pub mod lanes;
+pub mod shuffles;
 pub mod tables;
