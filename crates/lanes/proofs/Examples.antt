@@ -1,7 +1,6 @@
 -- The definitions on vectors, by computing: which lane goes where.
 use mathlib.Core.Path.{_≡_, refl}
 use mathlib.Core.List.{List, [], _∷_}
-use Prim.Native.Nat.{ℕ}
 use lib.IntN.{ℤ, pos, negsuc}
 use Rattle.scalar.specs.Scalar.{sat16, wrap16, wrap32, subsOf, absOf, maddOf, packusOf}
 use Rattle.scalar.specs.Tab.{tabFrom}

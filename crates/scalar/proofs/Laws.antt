@@ -1,7 +1,7 @@
 -- Laws of signed numbers at 16, 32 and 64 bits, by cases on the signs.
 use mathlib.Core.Path.{_≡_, refl, sym, ap, _∙_}
 use mathlib.Core.Bool.{Bool, true, false, cond}
-use Prim.Native.Nat.{ℕ, zero, suc, _+_, _*_, _-_, _/_, _%_, _^_, _<_, _≤_, min}
+use Prim.Native.Nat.{ℕ, zero, suc, _+_, _*_, _-_, _%_, _<_, _≤_}
 use native.Mathlib.Omega.{arith}
 use native.Mathlib.Nat.{mul-le-mul, lt-of-le-of-lt, lt-of-lt-of-le}
 use lib.Bits.{bitAnd, and-mask}
@@ -9,11 +9,10 @@ use lib.IntN.{ℤ, pos, negsuc, negℤ, subℕ, _+ℤ_, _-ℤ_, _*ℤ_, +ℤ-idl
 use lib.Signed.{mag, shrZ, ltZ, mag-shr, nonNeg}
 use lib.Dec.{T, ltb, lit≤}
 use borrow.Author.Tests.{ltb-true, ltb-false, le-ltb}
-use borrow.Author.Needs.{sfits-of}
 use mir.Syntax.{Width, w8, w16, w32, w64}
 use mir.Val.{SFits, Fits, toZ, ofZ, sel}
 use mir.Facts.{toZ-ofZ, toZ-pos, sfits-widen, sfits-toZ, fits-ofZ}
-use Rattle.scalar.specs.Scalar.{sat16, wrap16, wrap32, modZ, absOf, signOf, packusOf}
+use Rattle.scalar.specs.Scalar.{sat16, wrap16, wrap32, modZ, absOf, signOf, minOf, maxOf, packusOf}
 
 -- a number of 16 bits fits 32, one of 32 fits 64
 pub wide16 : {z : ℤ} → SFits w16 z → SFits w32 z
@@ -253,6 +252,22 @@ pub abs-pos : (z : ℤ) → ltZ z (pos 0) ≡ false → absOf z ≡ z
 unfolding absOf
 abs-pos (pos n) e = refl
 abs-pos (negsuc n) e = cc
+
+pub min-left : (a b : ℤ) → ltZ a b ≡ true → a ≡ minOf a b
+unfolding minOf
+min-left a b e = rw e refl
+
+pub min-right : (a b : ℤ) → ltZ a b ≡ false → b ≡ minOf a b
+unfolding minOf
+min-right a b e = rw e refl
+
+pub max-right : (a b : ℤ) → ltZ a b ≡ true → b ≡ maxOf a b
+unfolding maxOf
+max-right a b e = rw e refl
+
+pub max-left : (a b : ℤ) → ltZ a b ≡ false → a ≡ maxOf a b
+unfolding maxOf
+max-left a b e = rw e refl
 
 pub packus-low : (z : ℤ) → ltZ z (pos 0) ≡ true → 0 ≡ packusOf z
 unfolding packusOf

@@ -1,5 +1,4 @@
 -- What one lane of each operation means, after the Intel Intrinsics Guide. A lane is a number of 16 (or 32) bits, read as signed.
-use mathlib.Core.Bool.{Bool, true, false}
 use Prim.Native.Nat.{ℕ, zero, suc, min, _-_, _*_, _/_, _%_, _^_}
 use lib.IntN.{ℤ, pos, negsuc, negℤ, _+ℤ_, _-ℤ_, _*ℤ_}
 use lib.Signed.{shrZ, ltZ}

@@ -1,7 +1,6 @@
 -- The shuffles that dct.rs names, on lanes that are their own numbers, and a mask, by computing.
 use mathlib.Core.Path.{_≡_, refl}
 use mathlib.Core.List.{List, [], _∷_}
-use Prim.Native.Nat.{ℕ}
 use lib.IntN.{ℤ, pos, negsuc}
 use Rattle.scalar.specs.Tab.{tabFrom}
 use Rattle.shuffles.specs.Shuffles.{selector, mm-shuffle-epi32, pairPlace, mm-shuffle-epi32-16, lowPlace, mm-shufflelo-epi16, highPlace, mm-shufflehi-epi16, mm-unpacklo-epi32-16, flag, nonzeroMask}

@@ -1,9 +1,6 @@
-use mathlib.Core.Path.{_≡_, refl, sym, ap, _∙_}
-use borrow.Author.Needs.{needs, sfits-of}
+use mathlib.Core.Path.{refl}
 use mir.Facts.{toZ-ofZ}
 use native.Mathlib.Omega.{arith}
-use lib.IntN.{ℤ, pos, _+ℤ_, _*ℤ_}
-use lib.Signed.{nonNeg}
 use Rattle.scalar.proofs.Laws.{wide16, bits-pos, bits-small}
 use Rattle.scalar.proofs.bits16.Statement.{statement}
 use Rattle.scalar.proofs.bits16.Tie as tie

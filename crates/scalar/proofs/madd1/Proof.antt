@@ -1,8 +1,7 @@
-use mathlib.Core.Path.{_≡_, refl, sym, ap, _∙_}
+use mathlib.Core.Path.{ap, _∙_}
 use borrow.Author.Needs.{needs, sfits-of}
 use mir.Facts.{toZ-ofZ}
-use native.Mathlib.Omega.{arith}
-use lib.IntN.{ℤ, pos, _+ℤ_, _*ℤ_}
+use lib.IntN.{ℤ, _+ℤ_, _*ℤ_}
 use Rattle.scalar.specs.Scalar.{wrap32}
 use Rattle.scalar.specs.Scalar.{maddOf}
 use Rattle.scalar.proofs.madd1.Statement.{statement}

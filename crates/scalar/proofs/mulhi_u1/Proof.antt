@@ -1,11 +1,10 @@
-use mathlib.Core.Path.{_≡_, refl, sym, ap, _∙_}
+use mathlib.Core.Path.{_≡_, refl, _∙_}
 use borrow.Author.Needs.{needs, sfits-of}
 use mir.Facts.{toZ-ofZ}
 use native.Mathlib.Omega.{arith}
-use lib.IntN.{ℤ, pos, _+ℤ_, _*ℤ_}
-use Prim.Native.Nat.{ℕ, _*_, _/_, _<_}
+use Prim.Native.Nat.{_*_, _/_, _<_}
 use mir.Syntax.{w16}
-use mir.Val.{ofZ, toZ}
+use mir.Val.{ofZ}
 use Rattle.scalar.specs.Scalar.{mulhiuOf}
 use Rattle.scalar.proofs.Laws.{bits-small, bits-prod, from-bits}
 use Rattle.scalar.proofs.mulhi_u1.Statement.{statement}

@@ -1,7 +1,3 @@
-use mathlib.Core.Path.{_≡_, _∙_, ap}
-use mathlib.Core.Bool.{false}
-use lib.IntN.{pos, natAbs}
-use lib.Signed.{ltZ}
 use mir.Facts.{toZ-ofZ}
 use Rattle.scalar.proofs.Laws.{packus-low, packus-high, packus-mid, byte-fits}
 use Rattle.scalar.proofs.packus1.Statement.{statement}

@@ -1,6 +1,5 @@
 use borrow.Author.Needs.{needs}
 use mathlib.Core.Path.{_∙_}
-use native.Mathlib.Omega.{arith}
 use Rattle.shuffles.proofs.Places.{low-selects, low-keeps}
 use Rattle.shuffles.proofs.low_place.Statement.{statement}
 use Rattle.shuffles.proofs.low_place.Tie as tie
