@@ -9,6 +9,8 @@ ghost use Rattle.bits.specs.Lay.{lay};
 ghost use Rattle.bits.specs.ByteRow.{wordBytes};
 ghost use Rattle.bitacc.specs.Put.{Room, LastRoom, Put, flushed};
 
+pub mod lent;
+
 pub struct BitAcc {
     // The bits that wait, in the low end.
     pub acc: u64,

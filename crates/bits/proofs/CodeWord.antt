@@ -73,3 +73,10 @@ run-fits (suc n) h =
 
 pub run-length : (n : ℕ) → n < 2 ^ 64 → length (runCode n) ≡ 2 * bitLength n
 run-length n h = ap length (run-number n h) ∙ length-bitsOf (2 * bitLength n) (2 ^ (2 * bitLength n) / 2 + n)
+
+-- codes of small numbers are short
+pub value-short : (k c : ℕ) → k ≤ 64 → 0 < c → c < 2 ^ k → length (valueCode c) ≤ 2 * k - 1
+value-short k c l p h = omega (arith, value-length c p (lt-of-lt-of-le h (pow-mono {i = k} {j = 64} l)), length-le k c h)
+
+pub run-short : (k n : ℕ) → k ≤ 64 → n < 2 ^ k → length (runCode n) ≤ 2 * k
+run-short k n l h = omega (arith, run-length n (lt-of-lt-of-le h (pow-mono {i = k} {j = 64} l)), length-le k n h)
