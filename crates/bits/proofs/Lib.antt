@@ -3,6 +3,7 @@ pub mod BitLaw
 pub mod PackBack
 pub mod SignedBack
 pub mod Prefix
+pub mod Entries
 pub mod Leading
 pub mod Pack
 pub mod LayLaw

@@ -1,4 +1,5 @@
 pub mod Entries
+pub mod Orders
 pub mod AcBack
 pub mod Residues
 pub mod DcBack
