@@ -81,15 +81,15 @@ diffOf shift level a b = addsOf (sraOf (subsOf a b) shift) level
 -- both stages joined: the upper half are sums, the lower half differences
 unfoldable pub joinOf : ℕ → ℤ → Four → Four → Eight
 joinOf shift level o e =
-    record
-    { y0 = sumOf shift level (o .h0) (e .h0)
-    ; y1 = sumOf shift level (e .h1) (o .h1)
-    ; y2 = sumOf shift level (e .h2) (o .h2)
-    ; y3 = sumOf shift level (o .h3) (e .h3)
-    ; y4 = diffOf shift level (e .h3) (o .h3)
-    ; y5 = diffOf shift level (e .h2) (o .h2)
-    ; y6 = diffOf shift level (e .h1) (o .h1)
-    ; y7 = diffOf shift level (e .h0) (o .h0)
+    record {
+      y0 = sumOf shift level (o .h0) (e .h0);
+      y1 = sumOf shift level (e .h1) (o .h1);
+      y2 = sumOf shift level (e .h2) (o .h2);
+      y3 = sumOf shift level (o .h3) (e .h3);
+      y4 = diffOf shift level (e .h3) (o .h3);
+      y5 = diffOf shift level (e .h2) (o .h2);
+      y6 = diffOf shift level (e .h1) (o .h1);
+      y7 = diffOf shift level (e .h0) (o .h0);
     }
 
 -- the column of x0 to x7, level added, not clamped

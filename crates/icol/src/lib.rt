@@ -5,8 +5,11 @@ ghost use Prim.Native.Nat.{_<_};
 ghost use Rattle.icol.specs.Steps.{oddOf, evenOf, sumOf, diffOf, columnOf};
 
 const TG_1_16: i16 = 13036;
+
 const TG_2_16: i16 = 27146;
+
 const TG_3_16: i16 = -21746;
+
 const COS_4_16: i16 = -19195;
 
 // Four numbers of a column, between two stages.

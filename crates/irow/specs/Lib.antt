@@ -1,0 +1,2 @@
+pub mod RowPass
+pub mod Stages
