@@ -19,6 +19,9 @@ fn main() {
     let src = root
         .join(env::var("VMX_RUST_SRC").unwrap_or_else(|_| "../shared/docs/src".into()))
         .join("crates/vmx-codec/src");
+    for name in FILES {
+        println!("cargo:rerun-if-changed={}", src.join(format!("{name}.rs")).display());
+    }
     if !src.join("slice.rs").is_file() {
         let message = format!("the published Rust sources are not at {} (set VMX_RUST_SRC)", src.display());
         if env::var("CI").as_deref() == Ok("true") {
@@ -33,7 +36,6 @@ fn main() {
     let mut list = String::new();
     for name in FILES {
         copy(&src, &out, &here, name);
-        println!("cargo:rerun-if-changed={}", src.join(format!("{name}.rs")).display());
         list += &format!("mod {name};\n");
     }
     fs::write(out.join("list.rs"), list).unwrap();
