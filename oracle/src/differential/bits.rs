@@ -3,7 +3,7 @@
 use super::Run;
 use crate::gen::streams::{self, Bits};
 use crate::gen::Rng;
-use crate::ours;
+use crate::ours::{self, bits::Code};
 use reference::api::bits::{self, AcSymbol, Cursor, Writer};
 
 pub fn run(run: &mut Run) {
@@ -12,6 +12,7 @@ pub fn run(run: &mut Run) {
         for _ in 0..20 {
             written(run);
             read(run);
+            read_dc(run);
         }
     }
 }
@@ -63,25 +64,83 @@ fn few_bits(rng: &mut Rng, most: usize) -> u32 {
     (rng.next() & ((1 << n) - 1)) as u32
 }
 
-/// A stream read by the cursor and bit by bit, from any bit on.
+/// A stream from any bit on: ours, the Rust's cursor, and the Rust bit by bit.
 fn read(run: &mut Run) {
-    let kind = run.report.kind("bits: symbols read");
+    let kind = run.report.kind("bits: AC symbols read");
     let mut s = Bits::default();
     let places = run.rng.between(1, 200);
     streams::ac_codes(&mut run.rng, &mut s, places);
-    if run.rng.once_in(2) {
-        streams::damage(&mut run.rng, &mut s.bytes);
-    }
-    let start = run.rng.below(8 * s.bytes.len() + 80);
-    let mut pos = if run.rng.once_in(2) { 0 } else { start };
-    let mut cursor = Cursor::new(&s.bytes, pos);
+    let (s, start) = any_start(&mut run.rng, s.bytes);
+    let mut cursor = Cursor::new(&s, start);
+    let mut pos = start;
+    let (mut cached, mut single) = (vec![], vec![]);
     for _ in 0..places {
-        let one = bits::ac_symbol(&s.bytes, pos);
-        let found = cursor.symbol().map(|x| (x, cursor.bit_pos()));
-        run.report.same(kind, &found, &one, s.bytes.len(), || format!("{:02x?} at bit {pos}", s.bytes));
-        match one {
-            Some((AcSymbol::Run(_) | AcSymbol::Value(_), next)) => pos = next,
-            None => break,
+        cached.push(symbol(cursor.symbol().map(|x| (x, cursor.bit_pos()))));
+        single.push(symbol(bits::ac_symbol(&s, pos)));
+        match single.last().unwrap().num {
+            0 => break,
+            _ => pos = single.last().unwrap().end as usize,
         }
     }
+    let ours = bad_ends_here(ours::bits::read(&s, start, false, places));
+    let equal = ours == cached && cached == single;
+    run.report.many(kind, equal, single.len() as u64, s.len(), || {
+        format!("{s:02x?} from bit {start}: ours {ours:?} cursor {cached:?} bit by bit {single:?}")
+    });
+}
+
+/// DC codes in a row, from any bit on.
+fn read_dc(run: &mut Run) {
+    let kind = run.report.kind("bits: DC codes read");
+    let mut s = Bits::default();
+    let blocks = run.rng.between(1, 60);
+    streams::dc_codes(&mut run.rng, &mut s, blocks);
+    let (s, start) = any_start(&mut run.rng, s.bytes);
+    let mut pos = start;
+    let mut wanted = vec![];
+    for _ in 0..blocks {
+        let code = match bits::dc_code(&s, pos) {
+            None => Code::default(),
+            Some((None, end)) => Code { run: 1, num: 1, end: end as u64 },
+            Some((Some(num), end)) => Code { run: 0, num, end: end as u64 },
+        };
+        wanted.push(code);
+        match code.num {
+            0 => break,
+            _ => pos = code.end as usize,
+        }
+    }
+    // The number of a zero step is not part of the answer.
+    let mut ours = bad_ends_here(ours::bits::read(&s, start, true, blocks));
+    ours.iter_mut().filter(|c| c.run == 1 && c.num > 0).for_each(|c| c.num = 1);
+    run.report.many(kind, ours == wanted, wanted.len() as u64, s.len(), || {
+        format!("{s:02x?} from bit {start}: ours {ours:?} Rust {wanted:?}")
+    });
+}
+
+/// Damage at times; from the first bit, any bit, or a bit past the end.
+fn any_start(rng: &mut Rng, mut s: Vec<u8>) -> (Vec<u8>, usize) {
+    if rng.once_in(2) {
+        streams::damage(rng, &mut s);
+    }
+    let any = rng.below(8 * s.len() + 80);
+    (s, if rng.once_in(2) { 0 } else { any })
+}
+
+fn symbol(s: Option<(AcSymbol, usize)>) -> Code {
+    match s {
+        None => Code::default(),
+        Some((AcSymbol::Run(num), end)) => Code { run: 1, num, end: end as u64 },
+        Some((AcSymbol::Value(num), end)) => Code { run: 0, num, end: end as u64 },
+    }
+}
+
+/// A bad code has no head and no end.
+fn bad_ends_here(mut codes: Vec<Code>) -> Vec<Code> {
+    if let Some(last) = codes.last_mut() {
+        if last.num == 0 {
+            *last = Code::default();
+        }
+    }
+    codes
 }

@@ -2,32 +2,155 @@
 
 use super::Run;
 use crate::gen::frames;
-use reference::api::layout::{parse, write, Layout};
+use crate::ours;
+use crate::report::Kind;
+use reference::api::layout::{number, parse, write, Layout};
 
 pub fn run(run: &mut Run) {
+    let kinds = Kinds::new(run);
+    for height in (16..=1100).chain(2100..=2200).chain(4070..=4320) {
+        geometry(run, &kinds, 16 + 2 * (height % 30), height);
+    }
+    for width in (16..=7680).step_by(2) {
+        geometry(run, &kinds, width, 480);
+    }
+    small(run, &kinds);
     while run.more() {
         for _ in 0..20 {
-            written(run);
+            let (width, height) = frames::any_dimensions(&mut run.rng);
+            geometry(run, &kinds, width, height);
+            random(run, &kinds);
+            bad_size(run, &kinds, width, height);
         }
     }
 }
 
-fn written(run: &mut Run) {
-    let kind = run.report.kind("frames: what was written is read back");
+struct Kinds {
+    layout: Kind,
+    rows: Kind,
+    written: Kind,
+    read: Kind,
+    refused: Kind,
+    views: Kind,
+}
+
+impl Kinds {
+    fn new(run: &mut Run) -> Self {
+        let mut kind = |name: &str| run.report.kind(format!("frames: {name}"));
+        Kinds {
+            layout: kind("layouts"),
+            rows: kind("image rows"),
+            written: kind("what was written is read back"),
+            read: kind("read"),
+            refused: kind("refused"),
+            views: kind("streams handed back"),
+        }
+    }
+}
+
+/// All that follows from a width and a height.
+fn geometry(run: &mut Run, kinds: &Kinds, width: usize, height: usize) {
+    let rust = Layout::new(width, height);
+    let found = ours::layout::new(width, height);
+    let wanted = rust.map_err(number).map(|l| {
+        let [y, u, v, a] = l.strides();
+        assert!(u == v && y == a);
+        [l.aligned_height(), l.slices(), y, u, l.max_dc_len(), l.max_ac_len()]
+    });
+    let text = || format!("width {width} height {height}");
+    run.report.same(kinds.layout, &found, &wanted, 0, text);
+    let Ok(l) = rust else { return };
+    run.report.same(kinds.layout, &ours::layout::interlace_capable(height), &l.interlace_capable(), 0, text);
+    for interlaced in [false, true] {
+        let found = ours::layout::preview_size(width, height, interlaced);
+        run.report.same(kinds.layout, &found, &l.preview_size(interlaced), 0, text);
+        let start = run.rng.below(l.aligned_height());
+        for r in (start..start + 20).chain([0, height, l.aligned_height() / 2, l.aligned_height(), usize::MAX]) {
+            let found = ours::layout::image_row(height, r, interlaced);
+            run.report.same(kinds.rows, &found, &l.image_row(r, interlaced), 0, || {
+                format!("height {height} row {r} interlaced {interlaced}")
+            });
+        }
+    }
+}
+
+/// Small frames with every byte changed and every cut.
+fn small(run: &mut Run, kinds: &Kinds) {
+    for (width, height) in [(16, 16), (18, 33), (24, 480)] {
+        let l = Layout::new(width, height).unwrap();
+        for shift in [0, 3] {
+            for with_ac in [true, false] {
+                let streams = |n: usize| -> Vec<Vec<u8>> { (0..l.slices()).map(|i| vec![i as u8; (i + n) % 4]).collect() };
+                let ac = if with_ac { streams(2) } else { vec![] };
+                let frame = write(&l, true, 80, shift, &streams(1), &ac);
+                for cut in 0..=frame.len() {
+                    judged(run, kinds, width, height, &l, &frame[..cut]);
+                }
+                for at in 0..frame.len() {
+                    for b in (0..=255).step_by(if l.slices() > 8 { 37 } else { 1 }) {
+                        let mut f = frame.clone();
+                        f[at] = b;
+                        judged(run, kinds, width, height, &l, &f);
+                    }
+                }
+            }
+        }
+    }
+}
+
+fn random(run: &mut Run, kinds: &Kinds) {
     let p = frames::parts(&mut run.rng);
     let l = Layout::new(p.width, p.height).unwrap();
-    let frame = write(&l, p.interlaced, p.quality as i32, p.dc_shift, &p.dc, &p.ac);
+    let mut frame = write(&l, p.interlaced, p.quality as i32, p.dc_shift, &p.dc, &p.ac);
     let long = |streams: &[Vec<u8>], limit| streams.iter().any(|s| s.len() > limit);
     let within = !long(&p.dc, l.max_dc_len()) && !long(&p.ac, l.max_ac_len());
-    let five = frame.len() >= 5;
-    let ok = match parse(&l, &frame) {
-        Err(_) => !within || !five,
-        Ok(c) => {
-            let bytes = |places: &[(usize, usize)]| -> Vec<Vec<u8>> {
-                places.iter().map(|(at, n)| frame[*at..at + n].to_vec()).collect()
-            };
-            within && bytes(&c.dc) == p.dc && bytes(&c.ac) == p.ac && c.quality == p.quality as i32 && c.dc_shift == p.dc_shift
-        }
+    let bytes = |places: &[(usize, usize)]| -> Vec<Vec<u8>> {
+        places.iter().map(|(at, n)| frame[*at..at + n].to_vec()).collect()
     };
-    run.report.check(kind, ok, frame.len(), || format!("{p:?}"));
+    let ok = match parse(&l, &frame) {
+        Err(_) => !within,
+        Ok(c) => within && bytes(&c.dc) == p.dc && bytes(&c.ac) == p.ac,
+    };
+    run.report.check(kinds.written, ok, frame.len(), || format!("{p:?}"));
+    judged(run, kinds, p.width, p.height, &l, &frame);
+    for _ in 0..3 {
+        frames::change(&mut run.rng, &mut frame);
+        judged(run, kinds, p.width, p.height, &l, &frame);
+    }
+}
+
+/// Question 9 comes before all others.
+fn bad_size(run: &mut Run, kinds: &Kinds, width: usize, height: usize) {
+    let Err(e) = Layout::new(width, height) else { return };
+    let n = run.rng.below(8);
+    let frame = run.rng.bytes(n);
+    let text = || format!("width {width} height {height} frame {frame:02x?}");
+    run.report.same(kinds.refused, &ours::layout::parse(width, height, &frame), &Err(number(e)), n, text);
+    run.report.same(kinds.views, &ours::layout::view(width, height, &frame, false, 0), &Err(number(e)), n, text);
+}
+
+/// One frame: its header or its refusal, and some of its streams.
+fn judged(run: &mut Run, kinds: &Kinds, width: usize, height: usize, l: &Layout, frame: &[u8]) {
+    let rust = parse(l, frame);
+    let text = || format!("width {width} height {height} frame of {}: {:02x?}", frame.len(), &frame[..frame.len().min(200)]);
+    let found = ours::layout::parse(width, height, frame);
+    let wanted = rust.as_ref().map_err(|e| number(*e)).map(|c| {
+        [c.interlaced as usize, c.quality as usize, c.dc_shift as usize, c.header_len, !c.ac.is_empty() as usize]
+    });
+    let kind = if wanted.is_ok() { kinds.read } else { kinds.refused };
+    run.report.same(kind, &found, &wanted, frame.len(), text);
+    for slice in [run.rng.below(l.slices()), 0, l.slices() - 1, l.slices(), run.rng.next() as usize] {
+        for ac in [false, true] {
+            let wanted = rust.as_ref().map_err(|e| number(*e)).and_then(|c| {
+                let list = if ac { &c.ac } else { &c.dc };
+                list.get(slice).copied().ok_or(14)
+            });
+            let found = ours::layout::view(width, height, frame, ac, slice);
+            run.report.same(kinds.views, &found, &wanted, frame.len(), || format!("slice {slice} ac {ac} {}", text()));
+            let (at, len) = wanted.unwrap_or((0, 0));
+            let first = if len > 0 { frame[at] } else { 0 };
+            let part = ours::layout::stream(width, height, frame, ac, slice);
+            run.report.same(kinds.views, &part, &(len, first), frame.len(), || format!("slice {slice} ac {ac} {}", text()));
+        }
+    }
 }

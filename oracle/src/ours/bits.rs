@@ -1,4 +1,4 @@
-//! Crate bitacc, by crates/probe/src/of_bitacc.rt.
+//! Crates bitacc and bitreader, by crates/probe/src/of_bitacc.rt and of_bitreader.rt.
 
 extern "C" {
     fn probe_bitacc_write(
@@ -12,6 +12,7 @@ extern "C" {
         out: *mut u8,
         n: usize,
     ) -> usize;
+    fn probe_bitreader_read(s: *const u8, sn: usize, at: usize, dc: bool, out: *mut u64, n: usize) -> usize;
 }
 
 /// Codes in a row from the byte `at` on, for kinds 0, 1, 2 a value, a run, or both; then zero bits up to a byte. The end.
@@ -21,4 +22,19 @@ pub fn write(kinds: &[u8], runs: &[u32], codes: &[u32], at: usize, out: &mut [u8
     unsafe {
         probe_bitacc_write(kinds.as_ptr(), n, runs.as_ptr(), n, codes.as_ptr(), n, at, out.as_mut_ptr(), out.len())
     }
+}
+
+/// A code that was read: head bit, number (0: a bad code), the bit behind it.
+#[derive(Clone, Copy, Debug, Default, PartialEq, Eq)]
+pub struct Code {
+    pub run: u64,
+    pub num: u64,
+    pub end: u64,
+}
+
+/// At most `most` codes from the bit `at` on, up to the first bad one.
+pub fn read(s: &[u8], at: usize, dc: bool, most: usize) -> Vec<Code> {
+    let mut out = vec![0u64; 3 * most];
+    let n = unsafe { probe_bitreader_read(s.as_ptr(), s.len(), at, dc, out.as_mut_ptr(), out.len()) };
+    out[..n].chunks(3).map(|c| Code { run: c[0], num: c[1], end: c[2] }).collect()
 }

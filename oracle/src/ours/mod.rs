@@ -3,5 +3,6 @@
 
 pub mod bits;
 pub mod lanes;
+pub mod layout;
 pub mod shuffles;
 pub mod tables;

@@ -6,10 +6,6 @@ use lib.ListN.{length}
 use Rattle.probe.specs.Kept.{Going}
 use Rattle.probe.proofs.of_bitacc.probe_bitacc_write.Statement.{statement}
 use Rattle.probe.proofs.of_bitacc.probe_bitacc_write.Tie as tie
-use Rattle.probe.proofs.of_bitacc.probe_bitacc_write.Reads as reads
-use Rattle.probe.proofs.of_bitacc.probe_bitacc_write.Lts as lts
-use Rattle.probe.proofs.of_bitacc.end.Reads as end-reads
-use Rattle.probe.proofs.of_bitacc.one.Reads as one-reads
 
 abbrev Inv-loop : tie.InvT-loop
 Inv-loop kinds runs codes at out₀ a₀ i₀ out a i = (i ≤ length kinds) × (length out ≡ length out₀) × Going a
@@ -17,71 +13,54 @@ Inv-loop kinds runs codes at out₀ a₀ i₀ out a i = (i ≤ length kinds) × 
 abbrev μ-loop : tie.MeasureT-loop
 μ-loop kinds runs codes at out₀ a₀ i₀ out a i = length kinds - i
 
--- src/of_bitacc.rt:97:5
 loop-holds : tie.Need-loop-holds Inv-loop μ-loop
 loop-holds c = (omega arith, refl, (omega arith, omega arith))
 
--- src/of_bitacc.rt:99:13
 same-length : tie.Need-same-length Inv-loop μ-loop
 same-length c = search needs
 
--- src/of_bitacc.rt:99:13
 returns : tie.Need-returns Inv-loop μ-loop
 returns c = search needs
 
--- src/of_bitacc.rt:102:13
 same-length-2 : tie.Need-same-length-2 Inv-loop μ-loop
 same-length-2 c = search needs
 
--- src/of_bitacc.rt:102:13
 returns-2 : tie.Need-returns-2 Inv-loop μ-loop
 returns-2 c = search needs
 
--- src/of_bitacc.rt:104:20
 shared-slice-read-one : tie.Need-shared-slice-read-one Inv-loop μ-loop
 shared-slice-read-one c = search needs
 
--- src/of_bitacc.rt:104:30
 mul-one : tie.Need-mul-one Inv-loop μ-loop
 mul-one c = search needs
 
--- src/of_bitacc.rt:104:30
 shared-slice-read-one-2 : tie.Need-shared-slice-read-one-2 Inv-loop μ-loop
 shared-slice-read-one-2 c = search needs
 
--- src/of_bitacc.rt:104:39
 mul-one-2 : tie.Need-mul-one-2 Inv-loop μ-loop
 mul-one-2 c = search needs
 
--- src/of_bitacc.rt:104:39
 shared-slice-read-one-3 : tie.Need-shared-slice-read-one-3 Inv-loop μ-loop
 shared-slice-read-one-3 c = search needs
 
--- src/of_bitacc.rt:104:9
 one-requires : tie.Need-one-requires Inv-loop μ-loop
 one-requires c κs = search needs
 
--- src/of_bitacc.rt:105:9
 add-i : tie.Need-add-i Inv-loop μ-loop
 add-i c = search needs
 
--- src/of_bitacc.rt:97:5
 loop-less : tie.Need-loop-less Inv-loop μ-loop
 loop-less c = search needs
 
--- src/of_bitacc.rt:97:5
 loop-again : tie.Need-loop-again Inv-loop μ-loop
 loop-again c = (omega arith, search needs, c .before .before .one .ensures)
 
--- src/of_bitacc.rt:107:5
 end-requires : tie.Need-end-requires Inv-loop μ-loop
 end-requires c κs = search needs
 
--- src/of_bitacc.rt:89:1
 same-length-3 : tie.Need-same-length-3 Inv-loop μ-loop
 same-length-3 c = search needs
 
--- src/of_bitacc.rt:89:1
 returns-3 : tie.Need-returns-3 Inv-loop μ-loop
 returns-3 c = search needs
 

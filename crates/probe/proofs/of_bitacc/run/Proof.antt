@@ -4,38 +4,28 @@ use Rattle.probe.proofs.Writer.{room-of, run-long}
 use borrow.Author.Needs.{needs}
 use Rattle.probe.proofs.of_bitacc.run.Statement.{statement}
 use Rattle.probe.proofs.of_bitacc.run.Tie as tie
-use Rattle.probe.proofs.of_bitacc.run.Reads as reads
-use Rattle.probe.proofs.of_bitacc.run.Lts as lts
-use Rattle.bitacc.proofs.put_run.Reads as put-run-reads
 
--- src/of_bitacc.rt:28:9
 returns : tie.Need-returns
 returns c = search needs
 
--- src/of_bitacc.rt:31:9
 returns-2 : tie.Need-returns-2
 returns-2 c = search needs
 
--- src/of_bitacc.rt:33:8
 sub-if3 : tie.Need-sub-if3
 sub-if3 c = search needs
 
--- src/of_bitacc.rt:34:9
 returns-3 : tie.Need-returns-3
 returns-3 c = search needs
 
--- src/of_bitacc.rt:36:5
 put-run-requires : tie.Need-put-run-requires
 put-run-requires c κs =
     let s = c .before .before .before .before .before in
     let h : s .args .n < 2 ^ 31 = search needs in
     (h, room-of (s .args .a) _ (s .args .out .now) (s .pre .0) (s .pre .1) (omega (arith, run-long (s .args .n) h)) (c .before .before .if2 .left) (c .before .if3 .left))
 
--- src/of_bitacc.rt:22:1
 same-length : tie.Need-same-length
 same-length c = search needs
 
--- src/of_bitacc.rt:22:1
 returns-4 : tie.Need-returns-4
 returns-4 c = search needs
 

@@ -4,35 +4,25 @@ use Rattle.probe.proofs.Writer.{room-of, both-long}
 use borrow.Author.Needs.{needs}
 use Rattle.probe.proofs.of_bitacc.run_value.Statement.{statement}
 use Rattle.probe.proofs.of_bitacc.run_value.Tie as tie
-use Rattle.probe.proofs.of_bitacc.run_value.Reads as reads
-use Rattle.probe.proofs.of_bitacc.run_value.Lts as lts
-use Rattle.bitacc.proofs.put_run_value.Reads as put-run-value-reads
 
--- src/of_bitacc.rt:45:9
 returns : tie.Need-returns
 returns c = search needs
 
--- src/of_bitacc.rt:48:9
 returns-2 : tie.Need-returns-2
 returns-2 c = search needs
 
--- src/of_bitacc.rt:51:9
 returns-3 : tie.Need-returns-3
 returns-3 c = search needs
 
--- src/of_bitacc.rt:54:9
 returns-4 : tie.Need-returns-4
 returns-4 c = search needs
 
--- src/of_bitacc.rt:56:8
 sub-if5 : tie.Need-sub-if5
 sub-if5 c = search needs
 
--- src/of_bitacc.rt:57:9
 returns-5 : tie.Need-returns-5
 returns-5 c = search needs
 
--- src/of_bitacc.rt:59:5
 put-run-value-requires : tie.Need-put-run-value-requires
 put-run-value-requires c κs =
     let s = c .before .before .before .before .before .before .before in
@@ -41,11 +31,9 @@ put-run-value-requires c κs =
     let q : s .args .c < 2 ^ 15 = search needs in
     (h, p, q, room-of (s .args .a) _ (s .args .out .now) (s .pre .0) (s .pre .1) (both-long (s .args .n) (s .args .c) h p q) (c .before .before .if4 .left) (c .before .if5 .left))
 
--- src/of_bitacc.rt:39:1
 same-length : tie.Need-same-length
 same-length c = search needs
 
--- src/of_bitacc.rt:39:1
 returns-6 : tie.Need-returns-6
 returns-6 c = search needs
 

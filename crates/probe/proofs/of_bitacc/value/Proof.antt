@@ -4,38 +4,28 @@ use Rattle.probe.proofs.Writer.{room-of, value-long}
 use borrow.Author.Needs.{needs}
 use Rattle.probe.proofs.of_bitacc.value.Statement.{statement}
 use Rattle.probe.proofs.of_bitacc.value.Tie as tie
-use Rattle.probe.proofs.of_bitacc.value.Reads as reads
-use Rattle.probe.proofs.of_bitacc.value.Lts as lts
-use Rattle.bitacc.proofs.put_value.Reads as put-value-reads
 
--- src/of_bitacc.rt:11:9
 returns : tie.Need-returns
 returns c = search needs
 
--- src/of_bitacc.rt:14:9
 returns-2 : tie.Need-returns-2
 returns-2 c = search needs
 
--- src/of_bitacc.rt:16:8
 sub-if3 : tie.Need-sub-if3
 sub-if3 c = search needs
 
--- src/of_bitacc.rt:17:9
 returns-3 : tie.Need-returns-3
 returns-3 c = search needs
 
--- src/of_bitacc.rt:19:5
 put-value-requires : tie.Need-put-value-requires
 put-value-requires c κs =
     let s = c .before .before .before .before .before in
     let h : 0 < s .args .c = search needs in
     (h, room-of (s .args .a) _ (s .args .out .now) (s .pre .0) (s .pre .1) (value-long (s .args .c) h (s .fits .c .fits)) (c .before .before .if2 .left) (c .before .if3 .left))
 
--- src/of_bitacc.rt:5:1
 same-length : tie.Need-same-length
 same-length c = search needs
 
--- src/of_bitacc.rt:5:1
 returns-4 : tie.Need-returns-4
 returns-4 c = search needs
 
