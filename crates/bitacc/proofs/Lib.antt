@@ -1,2 +1,4 @@
 pub mod Writer
+pub mod Same
+mod Filling
 mod Words

@@ -1,18 +1,16 @@
 -- Laws of a writer: how it starts, goes on and ends. A caller's loop carries `Wrote`. Assumes nothing.
-use mathlib.Core.Path.{_≡_, refl, sym, ap, ap₂, _∙_, subst}
+use mathlib.Core.Path.{_≡_, refl, sym, ap, ap₂, _∙_}
 use mathlib.Core.Bool.{Bool}
-use mathlib.Core.List.{List, [], _∷_, _++_, append-assoc}
-use Prim.Native.Nat.{ℕ, zero, suc, _+_, _-_, _*_, _/_, _%_, _^_, _≤_, _<_}
-use native.Mathlib.Nat.{mod-lt, add-zero}
+use mathlib.Core.List.{List, [], _++_, append-assoc}
+use Prim.Native.Nat.{ℕ, _+_, _*_, _/_, _%_, _^_, _≤_, _<_}
+use native.Mathlib.Nat.{add-zero}
 use native.Mathlib.Omega.{arith}
-use lib.Arith.{digits-lt}
-use lib.Pow.{pow-pos, pow-add, shr-lt}
 use lib.ListN.{length, length-append}
 use Rattle.bits.specs.Bits.{bitsOf, bytesFor, padToByte}
 use Rattle.bits.specs.Lay.{lay}
-use Rattle.bits.specs.ByteRow.{bytesBits, Bytes, wordBytes}
-use Rattle.bits.proofs.Pack.{bits-join, bits-split, bits-mod, bytes-append, bits-append, length-bytes, word-length, word-bytes, word-bits, pad-append}
+use Rattle.bits.specs.ByteRow.{bytesBits}
 use Rattle.bits.proofs.Codes.{length-bitsOf}
+use Rattle.bits.proofs.Pack.{bytes-append, bits-append, length-bytes, pad-append}
 use Rattle.bits.proofs.LayLaw.{lay-none, lay-length, lay-lay}
 use Rattle.bitacc.specs.Put.{start, Wrote, Put, Room, LastRoom, flushed}
 use Rattle.bitacc.specs.declared.BitAcc.{BitAcc}
@@ -23,6 +21,7 @@ unfolding bytesBits bitsOf
 wrote-start o p h = record {
   ws = [];
   small = tt;
+  eights = refl;
   bytes = sym (lay-none o p);
   place = sym (add-zero p);
   within = h;
@@ -46,6 +45,7 @@ put-chain {o} {p} {bs} {a} {o1} cs {r} {o2} w v =
     record {
       ws = w .ws ++ v .ws;
       small = bytes-append (w .ws) (v .ws) (w .small) (v .small);
+      eights = omega (arith, w .eights, v .eights, length-append (w .ws) (v .ws));
       bytes = v .bytes ∙ ap₂ (λ (l : List ℕ) (i : ℕ). lay l i (v .ws)) (w .bytes) (w .place) ∙ lay-lay o p (w .ws) h (v .ws);
       place = omega (arith, w .place, v .place, length-append (w .ws) (v .ws));
       within = omega (arith, v .within, wrote-length w);
@@ -79,46 +79,3 @@ wrote-whole {o} {p} {bs} {a} w e =
 -- and the place behind it
 pub whole-place : {o : List ℕ} {p : ℕ} {bs : List Bool} {a : BitAcc} {o' : List ℕ} → Wrote o p bs a o' → flushed a ≡ start (p + bytesFor (length bs))
 whole-place {o} {p} {bs} {a} w = let e : a .pos + bytesFor (a .nbits) ≡ p + bytesFor (length bs) = omega (arith, wrote-count w) in ap start e
-
--- ---- what put does
-
--- the bits fit the accumulator
-pub put-few : (a : BitAcc) (o : List ℕ) (n v x : ℕ) → Room a n o → v < 2 ^ n → a .nbits + n < 64 → x ≡ a .acc * 2 ^ n + v
-    → Put a o (bitsOf n v) (record { acc = x; nbits = a .nbits + n; pos = a .pos }) o
-unfolding bytesBits
-put-few a o n v x s h few e = record {
-  ws = [];
-  small = tt;
-  bytes = sym (lay-none o (a .pos));
-  place = sym (add-zero (a .pos));
-  within = omega (arith, s .room);
-  few = few;
-  low = rw (e, pow-add 2 (a .nbits) n) (digits-lt (s .low) h);
-  bits = ap (bitsOf (a .nbits + n)) e ∙ bits-join (a .nbits) n (a .acc) v h;
-}
-
--- the accumulator is full: f bits of v fill it, r wait
-module _ (a : BitAcc) (o : List ℕ) (n v f r : ℕ) (s : Room a n o) (h : v < 2 ^ n) (full : a .nbits + f ≡ 64) (rest : f + r ≡ n) where
-  top-fits : v / 2 ^ r < 2 ^ f
-  top-fits = shr-lt f r (subst (λ (k : ℕ). v < 2 ^ k) (sym rest) h)
-
-  put-bits : (w x : ℕ) → w ≡ a .acc * 2 ^ f + v / 2 ^ r → x ≡ v % 2 ^ r → bytesBits (wordBytes 8 w) ++ bitsOf r x ≡ bitsOf (a .nbits) (a .acc) ++ bitsOf n v
-  put-bits w x ew ex =
-      ap₂ (λ (l m : List Bool). l ++ m)
-      (word-bits 8 w ∙ ap₂ bitsOf (sym full) ew ∙ bits-join (a .nbits) f (a .acc) (v / 2 ^ r) top-fits)
-      (ap (bitsOf r) ex ∙ bits-mod r v)
-      ∙ append-assoc (bitsOf (a .nbits) (a .acc)) (bitsOf f (v / 2 ^ r)) (bitsOf r v)
-      ∙ ap (λ (l : List Bool). bitsOf (a .nbits) (a .acc) ++ l) (sym (bits-split f r v) ∙ ap (λ (k : ℕ). bitsOf k v) rest)
-
-  pub put-full : (w x : ℕ) (o' : List ℕ) → r < 64 → w ≡ a .acc * 2 ^ f + v / 2 ^ r → x ≡ v % 2 ^ r → o' ≡ lay o (a .pos) (wordBytes 8 w)
-      → Put a o (bitsOf n v) (record { acc = x; nbits = r; pos = a .pos + 8 }) o'
-  put-full w x o' few ew ex eo = record {
-    ws = wordBytes 8 w;
-    small = word-bytes 8 w;
-    bytes = eo;
-    place = ap (λ (k : ℕ). a .pos + k) (sym (word-length 8 w));
-    within = omega (arith, s .room);
-    few = few;
-    low = rw ex (mod-lt v (pow-pos r));
-    bits = put-bits w x ew ex;
-  }

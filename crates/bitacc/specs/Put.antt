@@ -2,7 +2,7 @@
 use mathlib.Core.Path.{_≡_}
 use mathlib.Core.Bool.{Bool}
 use mathlib.Core.List.{List, _++_}
-use Prim.Native.Nat.{ℕ, _+_, _/_, _^_, _≤_, _<_}
+use Prim.Native.Nat.{ℕ, _+_, _/_, _%_, _^_, _≤_, _<_}
 use lib.ListN.{length}
 use Rattle.bits.specs.Bits.{bitsOf, bytesFor}
 use Rattle.bits.specs.Lay.{lay}
@@ -14,10 +14,12 @@ abbrev pub start : ℕ → BitAcc
 start p = record { acc = 0; nbits = 0; pos = p }
 
 -- a writer that began at the byte p of o and was given the bits bs is now a, and the buffer o':
--- the whole bytes ws lie in it from p on, all else is as before, and the bits bs are those of ws, then those that wait
+-- whole bytes ws, eight at a time, lie in it from p on, all else is as before, and the bits bs are those of ws, then those that wait.
+-- By this, a and o' are one state and one buffer (wrote-same)
 pub record Wrote (o : List ℕ) (p : ℕ) (bs : List Bool) (a : BitAcc) (o' : List ℕ) : Type 0 where
   pub ws : List ℕ
   pub small : Bytes ws
+  pub eights : length ws % 8 ≡ 0
   pub bytes : o' ≡ lay o p ws
   pub place : a .pos ≡ p + length ws
   pub within : a .pos ≤ length o

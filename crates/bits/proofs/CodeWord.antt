@@ -7,7 +7,7 @@ use native.Mathlib.Nat.{lt-of-lt-of-le, two-pow-succ, one-mul}
 use native.Mathlib.Omega.{arith}
 use lib.Pow.{pow-mono}
 use lib.ListN.{length}
-use Rattle.bits.specs.Bits.{bitsOf, halvings, bitLength, spread, valueCode, runCode}
+use Rattle.bits.specs.Bits.{bitsOf, halvings, bitLength, spread, valueCode, runCode, zeroStepCode}
 use Rattle.bits.proofs.Leading.{length-top, length-le}
 use Rattle.bits.proofs.Pack.{bits-join, bits-wide}
 use Rattle.bits.proofs.Codes.{length-bitsOf}
@@ -80,3 +80,8 @@ value-short k c l p h = omega (arith, value-length c p (lt-of-lt-of-le h (pow-mo
 
 pub run-short : (k n : ℕ) → k ≤ 64 → n < 2 ^ k → length (runCode n) ≤ 2 * k
 run-short k n l h = omega (arith, run-length n (lt-of-lt-of-le h (pow-mono {i = k} {j = 64} l)), length-le k n h)
+
+-- a DC step of 0 is the two bits of 3
+pub zero-step : zeroStepCode ≡ bitsOf 2 3
+unfolding bitsOf
+zero-step = refl

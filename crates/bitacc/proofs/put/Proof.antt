@@ -5,7 +5,7 @@ use native.Mathlib.Nat.{lt-of-lt-of-le}
 use native.Mathlib.Omega.{arith}
 use borrow.Author.Needs.{needs}
 use lib.Pow.{pow-mono, shr-lt}
-use Rattle.bitacc.proofs.Writer.{put-few, put-full}
+use Rattle.bitacc.proofs.Filling.{put-few, put-full}
 use Rattle.bitacc.proofs.put.Statement.{statement}
 use Rattle.bitacc.proofs.put.Tie as tie
 
