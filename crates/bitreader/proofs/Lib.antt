@@ -3,3 +3,4 @@ pub mod Words
 pub mod Leads
 pub mod Spans
 pub mod Looks
+pub mod Signs

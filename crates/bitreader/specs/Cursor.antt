@@ -56,10 +56,9 @@ pub record Looked (s : List ℕ) (c : AcCursor) (e : ℕ) (g : Got) : Type 0 whe
   pub stays : g .num ≡ 0 → g .c .pos ≡ c .pos
   pub long : g .num ≡ 0 → bitAt s (c .pos + e) ≡ false
 
--- a tail of any length was read, behind the head r at c
-pub record Long (s : List ℕ) (c : AcCursor) (r : ℕ) (g : Got) : Type 0 where
-  pub ready : At s (g .c)
+-- what was got by the number v behind the head r at c
+pub record Long (c : AcCursor) (r v : ℕ) (g : Got) : Type 0 where
   pub head : g .run ≡ r
-  pub answer : g .num ≡ numberOf (readTail (bitAt s) (c .pos + 1 + r))
-  pub stays : g .num ≡ 0 → g .c .pos ≡ c .pos
-  pub goes : 0 < g .num → g .c .pos ≡ c .pos + (2 * (64 - leadingZeros 64 (g .num)) + r - 1)
+  pub number : g .num ≡ v
+  pub stays : v ≡ 0 → g .c ≡ c
+  pub goes : 0 < v → g .c ≡ record { pos = c .pos + (2 * (64 - leadingZeros 64 v) + r - 1); bits = 0; count = 0 }

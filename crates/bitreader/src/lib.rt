@@ -5,6 +5,7 @@ ghost use Prim.Native.Nat.{ℕ, _+_, _-_, _*_, _/_, _%_, _^_, _≤_, _<_};
 ghost use lib.ListN.{length, getD};
 ghost use Rattle.bits.specs.Bits.{bitAt, num, bytesFor};
 ghost use Rattle.bits.specs.Read.{readTail, readSymbol, readDc};
+ghost use Rattle.bits.specs.Signed.{signedOf};
 ghost use Rattle.bitreader.specs.Word.{Holds, eight, numberOf};
 ghost use Rattle.bitreader.specs.Cursor.{At, symbolOf, dcOf, NextSymbol, NextDc, Looked, Long};
 
@@ -75,6 +76,15 @@ fn edge(s: &[u8], i: usize) -> u64
 }
 
 // The bits from p on, at the top of a word: 57 of them at least.
+fn far(s: &[u8], p: usize) -> u64
+    requires { ⌜ p < 2 ^ 62 ⌝ }
+    ensures { λ r. ⌜ Holds (now (s .entry)) p (64 - p % 8) r ⌝ }
+{
+    let k = (p % 8) as u32;
+    edge(s, p / 8) << k
+}
+
+// The same, by one load where eight bytes are left.
 fn peek(s: &[u8], p: usize) -> u64
     requires { ⌜ p < 2 ^ 62 ⌝ }
     ensures { λ r. ⌜ Holds (now (s .entry)) p (64 - p % 8) r ⌝ }
@@ -84,7 +94,7 @@ fn peek(s: &[u8], p: usize) -> u64
     if i + 8 <= s.len() {
         word(s, i) << k
     } else {
-        edge(s, i) << k
+        far(s, p)
     }
 }
 
@@ -126,7 +136,16 @@ fn filled(s: &[u8], c: AcCursor) -> AcCursor
     requires { ⌜ At (now s) c × (c .pos < 2 ^ 62) ⌝ }
     ensures { λ r. ⌜ At (now (s .entry)) r × (r .pos ≡ c .pos) × (31 < r .count) ⌝ }
 {
-    if c.count < 32 { cursor(s, c.pos) } else { c }
+    if c.count < 32 {
+        let k = (c.pos % 8) as u32;
+        AcCursor {
+            pos: c.pos,
+            bits: peek(s, c.pos),
+            count: 64 - k,
+        }
+    } else {
+        c
+    }
 }
 
 // The y + 1 bits behind the y highest.
@@ -175,24 +194,24 @@ fn quick_dc(s: &[u8], c0: AcCursor) -> Got
     }
 }
 
-// The number behind a head, 0 for a bad code. A number alone comes back, so that nothing of a cursor goes through memory.
+// The number behind a head, of any length, 0 for a bad code. Long codes are seldom: a number alone comes back,
+// so that where the compiler leaves this a call, nothing of a cursor goes through memory.
 fn long_number(s: &[u8], p: usize) -> u64
     requires { ⌜ p < 2 ^ 61 ⌝ }
     ensures { λ r. ⌜ r ≡ numberOf (readTail (bitAt (now (s .entry))) p) ⌝ }
 {
-    let z = u64::leading_zeros(peek(s, p));
+    let z = u64::leading_zeros(far(s, p));
     if z > 54 {
         return 0;
     }
-    peek(s, p + z as usize) >> (62 - z)
+    far(s, p + z as usize) >> (62 - z)
 }
 
-// A code of any length behind the head run; its own length is that of its number's digits.
-fn longer(s: &[u8], c: AcCursor, run: u64) -> Got
-    requires { ⌜ At (now s) c × (c .pos < 2 ^ 60) × (run < 2) ⌝ }
-    ensures { λ r. ⌜ Long (now (s .entry)) c run r ⌝ }
+// What was got by the number v behind the head run at c: a code's length is that of its number's digits.
+fn longer(c: AcCursor, run: u64, v: u64) -> Got
+    requires { ⌜ (c .pos < 2 ^ 60) × (run < 2) ⌝ }
+    ensures { λ r. ⌜ Long c run v r ⌝ }
 {
-    let v = long_number(s, c.pos + 1 + run as usize);
     if v == 0 {
         return Got { run, num: 0, c };
     }
@@ -216,7 +235,8 @@ pub fn next_symbol(s: &[u8], c: AcCursor) -> Got
     let g = quick(s, c);
     if g.num == 0 {
         let d = g.c;
-        longer(s, d, g.run)
+        let v = long_number(s, d.pos + 1 + g.run as usize);
+        longer(d, g.run, v)
     } else {
         g
     }
@@ -230,8 +250,21 @@ pub fn next_dc(s: &[u8], c: AcCursor) -> Got
     let g = quick_dc(s, c);
     if g.num == 0 {
         let d = g.c;
-        longer(s, d, 0)
+        let v = long_number(s, d.pos + 1);
+        longer(d, 0, v)
     } else {
         g
+    }
+}
+
+// The number of a value code, cut to 16 bits, wrapping: an odd code is above 0.
+pub fn from_code(code: u64) -> i16
+    ensures { λ r. ⌜ r ≡ signedOf code ⌝ }
+{
+    let h = ((code / 2) % 65536) as u32;
+    if code % 2 == 1 {
+        scalar::low(h as i32)
+    } else {
+        scalar::low(((65536 - h) % 65536) as i32)
     }
 }

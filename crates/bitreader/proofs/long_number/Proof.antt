@@ -28,20 +28,20 @@ read s p w v h l g =
     tail-yes (bitAt s) p (leadingZeros 64 w) (v / 2 ^ (62 - leadingZeros 64 w)) (f .0) l
     (ap (λ (x : ℕ). v / 2 ^ x) e1 ∙ holds-top s (p + leadingZeros 64 w) (64 - (p + leadingZeros 64 w) % 8) v (suc (suc (leadingZeros 64 w))) g (omega arith) (omega arith))
 
-peek-requires : tie.Need-peek-requires
-peek-requires c κs = search needs
+far-requires : tie.Need-far-requires
+far-requires c κs = search needs
 
 returns : tie.Need-returns
-returns c = let a = c .before .before .before .args in refused (a .s .now) (a .p) (c .before .peek .result) (c .before .peek .ensures) (c .if1 .taken)
+returns c = let a = c .before .before .before .args in refused (a .s .now) (a .p) (c .before .far .result) (c .before .far .ensures) (c .if1 .taken)
 
-cast-peek : tie.Need-cast-peek
-cast-peek c = search needs
+cast-far : tie.Need-cast-far
+cast-far c = search needs
 
-add-peek : tie.Need-add-peek
-add-peek c = search needs
+add-far : tie.Need-add-far
+add-far c = search needs
 
-peek-requires-2 : tie.Need-peek-requires-2
-peek-requires-2 c κs = search needs
+far-requires-2 : tie.Need-far-requires-2
+far-requires-2 c κs = search needs
 
 sub-result : tie.Need-sub-result
 sub-result c = search needs
@@ -55,18 +55,18 @@ shr-result c = search needs
 returns-2 : tie.Need-returns-2
 returns-2 c =
     let a = c .before .before .before .before .args in
-    let k = c .before .before .peek in
-    read (a .s .now) (a .p) (k .result) (c .peek2 .result) (k .ensures) (c .before .if1 .left) (c .peek2 .ensures)
+    let k = c .before .before .far in
+    read (a .s .now) (a .p) (k .result) (c .far2 .result) (k .ensures) (c .before .if1 .left) (c .far2 .ensures)
 
 pub long-number-spec : {M : Type 1} → statement M
 long-number-spec =
     tie.close
     (tie.spec
-    peek-requires
+    far-requires
     returns
-    cast-peek
-    add-peek
-    peek-requires-2
+    cast-far
+    add-far
+    far-requires-2
     sub-result
     cast-result
     shr-result
