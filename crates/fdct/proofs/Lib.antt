@@ -1,0 +1,4 @@
+pub mod Stripes
+pub mod Places
+pub mod Coefficients
+mod Examples

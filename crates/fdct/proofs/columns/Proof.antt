@@ -1,0 +1,59 @@
+-- `fdct::columns` fills a column a turn. Assumes nothing.
+use borrow.Author.Needs.{needs, sfits-of}
+use mathlib.Core.Path.{_≡_, refl, ap, _∙_}
+use Prim.Native.Nat.{_+_, _-_, _*_, _/_, _%_}
+use native.Mathlib.Omega.{arith}
+use mir.Facts.{toZ-ofZ}
+use Prim.Native.Nat.{_<_}
+use Rattle.fcol.specs.Steps.{columnOf}
+use Rattle.fcol.specs.declared.Lanes.{Lanes}
+use Rattle.fcol.proofs.Step.{enter8}
+use Rattle.fdct.specs.Forward.{columnAt, columnsAt, columnsOf}
+use Rattle.fdct.proofs.Stripes.{Striped, striped-next, striped-done}
+use Rattle.fdct.proofs.Places.{column-place}
+use Rattle.fdct.proofs.columns.Statement.{statement}
+use Rattle.fdct.proofs.columns.Tie as tie
+
+abbrev Inv-loop : tie.InvT-loop
+Inv-loop shift b c₀ j₀ c j = Striped (columnsAt shift b) c j
+
+abbrev μ-loop : tie.MeasureT-loop
+μ-loop shift b c₀ j₀ c j = 8 - j
+
+loop-again : tie.Need-loop-again Inv-loop μ-loop
+loop-again c =
+    let k = c .before .before .before .before .before .before .before .before in
+    let a8 = k .before in
+    let a7 = a8 .before in
+    let a6 = a7 .before in
+    let a5 = a6 .before in
+    let a4 = a5 .before in
+    let a3 = a4 .before in
+    let a2 = a3 .before in
+    let a1 = a2 .before in
+    let i = a1 .before in
+    let l = i .before in
+    let small : l .loop .j < 8 = i .loop-test .taken in
+    let shift = l .before .args .shift in
+    let b = l .before .args .t1 in
+    let j = l .loop .j in
+    let t = c .struct-told8 .given in
+    let e : k .column .result ≡ columnAt shift b j = k .column .ensures ∙ enter8 (columnOf shift) (sfits-of (a1 .column-arg .given)) (sfits-of (a2 .column-arg2 .given)) (sfits-of (a3 .column-arg3 .given)) (sfits-of (a4 .column-arg4 .given)) (sfits-of (a5 .column-arg5 .given)) (sfits-of (a6 .column-arg6 .given)) (sfits-of (a7 .column-arg7 .given)) (sfits-of (a8 .column-arg8 .given)) in
+    striped-next (columnsAt shift b) (l .loop .c) j (omega arith) (l .loop .inv)
+    (toZ-ofZ (sfits-of (t .0 .1)) ∙ ap (λ (v : Lanes). v .v0) e ∙ column-place (columnAt shift b) j 0 (j) (omega arith) (omega arith))
+    (toZ-ofZ (sfits-of (t .1 .0 .1)) ∙ ap (λ (v : Lanes). v .v1) e ∙ column-place (columnAt shift b) j 1 (j + 8) (omega arith) (omega arith))
+    (toZ-ofZ (sfits-of (t .1 .1 .0 .1)) ∙ ap (λ (v : Lanes). v .v2) e ∙ column-place (columnAt shift b) j 2 (j + 16) (omega arith) (omega arith))
+    (toZ-ofZ (sfits-of (t .1 .1 .1 .0 .1)) ∙ ap (λ (v : Lanes). v .v3) e ∙ column-place (columnAt shift b) j 3 (j + 24) (omega arith) (omega arith))
+    (toZ-ofZ (sfits-of (t .1 .1 .1 .1 .0 .1)) ∙ ap (λ (v : Lanes). v .v4) e ∙ column-place (columnAt shift b) j 4 (j + 32) (omega arith) (omega arith))
+    (toZ-ofZ (sfits-of (t .1 .1 .1 .1 .1 .0 .1)) ∙ ap (λ (v : Lanes). v .v5) e ∙ column-place (columnAt shift b) j 5 (j + 40) (omega arith) (omega arith))
+    (toZ-ofZ (sfits-of (t .1 .1 .1 .1 .1 .1 .0 .1)) ∙ ap (λ (v : Lanes). v .v6) e ∙ column-place (columnAt shift b) j 6 (j + 48) (omega arith) (omega arith))
+    (toZ-ofZ (sfits-of (t .1 .1 .1 .1 .1 .1 .1 .0 .1)) ∙ ap (λ (v : Lanes). v .v7) e ∙ column-place (columnAt shift b) j 7 (j + 56) (omega arith) (omega arith))
+
+returns : tie.Need-returns Inv-loop μ-loop
+unfolding columnsOf
+returns c =
+    let l = c .before in
+    striped-done (columnsAt (l .before .args .shift) (l .before .args .t1)) (l .loop .c) (l .loop .j) (omega arith) (l .loop .inv)
+
+pub columns-spec : {M : Type 1} → statement M
+columns-spec = tie.close (tie.spec Inv-loop μ-loop (λ c. (search needs, (refl, λ i p q. absurd (omega arith)))) (λ c. omega arith) (λ c. omega arith) (λ c. omega arith) (λ c. omega arith) (λ c. omega arith) (λ c. omega arith) (λ c. omega arith) (λ c. omega arith) (λ c. omega arith) (λ c. omega arith) (λ c. omega arith) (λ c. omega arith) (λ c. omega arith) (λ c. omega arith) (λ c. omega arith) (λ c. omega arith) (λ c. omega arith) (λ c. omega arith) (λ c. omega arith) (λ c. omega arith) (λ c. omega arith) (λ c. omega arith) (λ c. omega arith) (λ c κs. search needs) (λ c. omega (arith, c .before .before .before .before .before .before .before .before .before .before .before .before .before .before .before .before .before .loop-test .taken)) (λ c. omega (arith, c .before .before .before .before .before .before .before .before .before .before .before .before .before .before .before .before .before .loop-test .taken)) (λ c. omega (arith, c .before .before .before .before .before .before .before .before .before .before .before .before .before .before .before .before .before .loop-test .taken)) (λ c. omega (arith, c .before .before .before .before .before .before .before .before .before .before .before .before .before .before .before .before .before .loop-test .taken)) (λ c. omega (arith, c .before .before .before .before .before .before .before .before .before .before .before .before .before .before .before .before .before .loop-test .taken)) (λ c. omega (arith, c .before .before .before .before .before .before .before .before .before .before .before .before .before .before .before .before .before .loop-test .taken)) (λ c. omega (arith, c .before .before .before .before .before .before .before .before .before .before .before .before .before .before .before .before .before .loop-test .taken)) (λ c. omega (arith, c .before .before .before .before .before .before .before .before .before .before .before .before .before .before .before .before .before .loop-test .taken)) (λ c. omega (arith, c .before .before .before .before .before .before .before .before .before .before .before .before .before .before .before .before .before .loop-test .taken)) (λ c. omega (arith, c .before .before .before .before .before .before .before .before .before .before .before .before .before .before .before .before .before .loop-test .taken)) (λ c. omega (arith, c .before .before .before .before .before .before .before .before .before .before .before .before .before .before .before .before .before .loop-test .taken)) (λ c. omega (arith, c .before .before .before .before .before .before .before .before .before .before .before .before .before .before .before .before .before .loop-test .taken)) (λ c. omega (arith, c .before .before .before .before .before .before .before .before .before .before .before .before .before .before .before .before .before .loop-test .taken)) (λ c. omega (arith, c .before .before .before .before .before .before .before .before .before .before .before .before .before .before .before .before .before .loop-test .taken)) (λ c. omega (arith, c .before .before .before .before .before .before .before .before .before .before .before .before .before .before .before .before .before .loop-test .taken)) (λ c. omega (arith, c .before .before .before .before .before .before .before .before .before .before .before .before .before .before .before .before .before .loop-test .taken)) (λ c. omega (arith, c .before .before .before .before .before .before .before .before .before .before .before .before .before .before .before .before .before .loop-test .taken)) (λ c. omega (arith, c .before .before .before .before .before .before .before .before .before .before .before .before .before .before .before .before .before .loop-test .taken)) (λ c. omega (arith, c .before .before .before .before .before .before .before .before .before .before .before .before .before .before .before .before .before .loop-test .taken)) (λ c. omega (arith, c .before .before .before .before .before .before .before .before .before .before .before .before .before .before .before .before .before .loop-test .taken)) (λ c. omega (arith, c .before .before .before .before .before .before .before .before .before .before .before .before .before .before .before .before .before .loop-test .taken)) (λ c. omega (arith, c .before .before .before .before .before .before .before .before .before .before .before .before .before .before .before .before .before .loop-test .taken)) (λ c. omega (arith, c .before .before .before .before .before .before .before .before .before .before .before .before .before .before .before .before .before .loop-test .taken)) (λ c. omega (arith, c .before .before .before .before .before .before .before .before .before .before .before .before .before .before .before .before .before .loop-test .taken)) (λ c. omega (arith, c .before .before .before .before .before .before .before .before .before .before .before .before .before .before .before .before .before .loop-test .taken)) loop-again returns)

@@ -1,0 +1,55 @@
+// Samples to lanes: the 8 by 8 block at the corner of the lent rows.
+ghost use mathlib.Core.Path.{_≡_};
+ghost use Prim.Native.Nat.{_+_, _*_, _≤_};
+ghost use lib.ListN.{length};
+ghost use lib.IntN.{pos};
+ghost use Prim.Native.Nat.{_/_};
+ghost use Rattle.fdct.specs.Forward.{lanes8Of, lanes16Of};
+
+// The lane of an 8-bit sample.
+pub fn lane8(x: u8) -> i16
+    ensures { λ r. ⌜ r ≡ pos x ⌝ }
+{
+    x as i16
+}
+
+// The lane of a 10-bit sample, which stands in the high bits.
+pub fn lane16(x: u16) -> i16
+    ensures { λ r. ⌜ r ≡ pos (x / 64) ⌝ }
+{
+    (x >> 6) as i16
+}
+
+// The lanes of the 8-bit block at the corner of rows.
+pub fn load8(rows: &[u8], stride: usize) -> [i16; 64]
+    requires { ⌜ 7 * stride + 8 ≤ length (now rows) ⌝ }
+    ensures { λ r. ⌜ r ≡ lanes8Of (now (rows .entry)) stride ⌝ }
+{
+    let mut b = [0i16; 64];
+    for h in 0..16 {
+        let o = 4 * h;
+        let p = h / 2 * stride + 4 * (h % 2);
+        b[o] = lane8(rows[p]);
+        b[o + 1] = lane8(rows[p + 1]);
+        b[o + 2] = lane8(rows[p + 2]);
+        b[o + 3] = lane8(rows[p + 3]);
+    }
+    b
+}
+
+// The lanes of the 10-bit block at the corner of rows.
+pub fn load16(rows: &[u16], stride: usize) -> [i16; 64]
+    requires { ⌜ 7 * stride + 8 ≤ length (now rows) ⌝ }
+    ensures { λ r. ⌜ r ≡ lanes16Of (now (rows .entry)) stride ⌝ }
+{
+    let mut b = [0i16; 64];
+    for h in 0..16 {
+        let o = 4 * h;
+        let p = h / 2 * stride + 4 * (h % 2);
+        b[o] = lane16(rows[p]);
+        b[o + 1] = lane16(rows[p + 1]);
+        b[o + 2] = lane16(rows[p + 2]);
+        b[o + 3] = lane16(rows[p + 3]);
+    }
+    b
+}

@@ -1,0 +1,4 @@
+pub mod Turns
+pub mod Places
+pub mod Wrap
+pub mod Whole

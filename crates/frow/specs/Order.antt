@@ -1,0 +1,55 @@
+-- The row pass in the order in which the code takes it: sums and differences side by side, products in pairs, pairs added.
+use mathlib.Core.Bool.{Bool}
+use mathlib.Core.List.{List}
+use Prim.Native.Nat.{ℕ, _+_, _*_, _/_, _%_}
+use lib.IntN.{ℤ, pos}
+use lib.Dec.{ltb}
+use mir.Val.{sel}
+use Rattle.scalar.specs.Scalar.{sat16, maddOf, add32Of, sraOf}
+use Rattle.scalar.specs.Tab.{tab}
+use Rattle.frow.specs.Rows.{at, sideAt, tableAt}
+
+-- of each row: s0 s1 d0 d1 s2 s3 d2 d3
+abbrev pub sidesAt : List ℤ → ℕ → ℤ
+sidesAt b i = sideAt b (i / 8) (i / 2 % 4) (2 * (i / 4 % 2) + i % 2)
+
+unfoldable pub sidesOf : List ℤ → List ℤ
+sidesOf b = tab 64 (sidesAt b)
+
+-- of each row: s2 s3 d2 d3 s0 s1 d0 d1
+abbrev pub swapAt : List ℤ → ℕ → ℤ
+swapAt x i = at x (8 * (i / 8) + (i + 4) % 8)
+
+unfoldable pub swapOf : List ℤ → List ℤ
+swapOf x = tab 64 (swapAt x)
+
+-- the rows' tables in parts: eight entries of each row, from 8 q on
+abbrev pub partAt : ℕ → ℕ → ℤ
+partAt q i = tableAt (i / 8) (8 * q + i % 8)
+
+unfoldable pub tablePart : ℕ → List ℤ
+tablePart q = tab 64 (partAt q)
+
+-- products of neighbours, added in pairs
+abbrev pub pairAt : List ℤ → List ℤ → ℕ → ℤ
+pairAt x t i = maddOf (at x (2 * i)) (at t (2 * i)) (at x (2 * i + 1)) (at t (2 * i + 1))
+
+unfoldable pub pairsOf : List ℤ → List ℤ → List ℤ
+pairsOf x t = tab 32 (pairAt x t)
+
+-- two pairs added, rounded, shifted by 16 and saturated
+unfoldable pub tailOf : ℤ → ℤ → ℤ
+tailOf a b = sat16 (sraOf (add32Of (add32Of a b) (pos 32768)) 16)
+
+abbrev pub tailAt : List ℤ → List ℤ → ℕ → ℤ
+tailAt m n i = tailOf (at m i) (at n i)
+
+unfoldable pub halfOf : List ℤ → List ℤ → List ℤ
+halfOf m n = tab 32 (tailAt m n)
+
+-- four coefficients of each row, then the other four
+abbrev pub joinAt : List ℤ → List ℤ → ℕ → ℤ
+joinAt lo hi i = sel (ltb (i % 8) 4) (at lo (4 * (i / 8) + i % 4)) (at hi (4 * (i / 8) + i % 4))
+
+unfoldable pub joinOf : List ℤ → List ℤ → List ℤ
+joinOf lo hi = tab 64 (joinAt lo hi)
