@@ -1,0 +1,107 @@
+-- `builder::start_frame`.
+use borrow.Author.Needs.{needs}
+use mathlib.Core.Path.{_≡_, refl, sym, _∙_, ap}
+use mathlib.Core.Bool.{true, false}
+use mathlib.Core.List.{List, [], _∷_, _++_}
+use native.Mathlib.Omega.{arith}
+use Prim.Native.Nat.{ℕ, _+_, _*_, _-_, _/_, _%_, _≤_, _<_}
+use lib.ListN.{length}
+use Rattle.ask.specs.Ask.{accepted, firstNo}
+use Rattle.bits.specs.Lay.{lay}
+use Rattle.bits.proofs.LayLaw.{lay-length}
+use Rattle.layout.specs.Views.{isAc}
+use Rattle.builder.specs.Build.{Build, Built, headerLength, headerBytes, lengthWord, started, headerQuestions}
+use Rattle.builder.specs.Views.{builderSays, shiftSays}
+use Rattle.builder.proofs.Laws.{starts, Starts, starts-at, header-no, header-yes, frame-built}
+use Rattle.builder.proofs.start_frame.Statement.{statement}
+use Rattle.builder.proofs.start_frame.Tie as tie
+
+returns : tie.Need-returns
+returns c =
+    let h = c .before in
+    let s = h .before in
+    let a = s .before .before .args in (
+      header-no (a .width) (a .height) (a .interlaced) (a .quality) (shiftSays (a .shift)) (a .out .now) (a .at)
+          (h .header-number .ensures ∙ ap (λ x. firstNo (headerQuestions (a .width) (a .height) x (length (a .out .now)) (a .at))) (s .shift-of .ensures)) (c .if1 .taken),
+      refl,
+    )
+
+add-end : tie.Need-add-end
+add-end c =
+    let e = c .before in
+    let h = e .before in
+    let s = h .before in
+    let a = s .before .before .args in
+    let g = starts-at (a .width) (a .height) (length (a .out .now)) (a .at) (s .shift-of .ensures) (h .header-number .ensures) (e .if1 .left) in
+    let r : c .header-length .result ≡ headerLength (s .shift-of .result) = c .header-length .ensures .0 in
+    omega (arith, g .room, r, s .before .before .good .1 .1 .1 .1 .1 .0)
+
+slice-count-requires : tie.Need-slice-count-requires
+slice-count-requires c κs =
+    let e = c .before in
+    let h = e .before in
+    let s = h .before in
+    let a = s .before .before .args in
+    let g = starts-at (a .width) (a .height) (length (a .out .now)) (a .at) (s .shift-of .ensures) (h .header-number .ensures) (e .if1 .left) in
+    g .high
+
+max-dc-len-requires : tie.Need-max-dc-len-requires
+max-dc-len-requires c κs =
+    let e = c .before .before in
+    let h = e .before in
+    let s = h .before in
+    let a = s .before .before .args in
+    let g = starts-at (a .width) (a .height) (length (a .out .now)) (a .at) (s .shift-of .ensures) (h .header-number .ensures) (e .if1 .left) in
+    g .wide
+
+max-ac-len-requires : tie.Need-max-ac-len-requires
+max-ac-len-requires c κs =
+    let e = c .before .before .before in
+    let h = e .before in
+    let s = h .before in
+    let a = s .before .before .args in
+    let g = starts-at (a .width) (a .height) (length (a .out .now)) (a .at) (s .shift-of .ensures) (h .header-number .ensures) (e .if1 .left) in
+    g .wide
+
+put-header-requires : tie.Need-put-header-requires
+put-header-requires c κs =
+    let e = c .before .before .before .before .before in
+    let h = e .before in
+    let s = h .before in
+    let a = s .before .before .args in
+    let g = starts-at (a .width) (a .height) (length (a .out .now)) (a .at) (s .shift-of .ensures) (h .header-number .ensures) (e .if1 .left) in
+    (omega (arith, g .room), g .small)
+
+returns-2 : tie.Need-returns-2
+returns-2 c =
+    let p = c .before .before in
+    let z = p .before .before in
+    let y = z .before in
+    let x = y .before in
+    let k = x .before in
+    let e = k .before in
+    let h = e .before in
+    let s = h .before in
+    let a = s .before .before .args in
+    let n : h .header-number .result ≡ 0 = omega (arith, e .if1 .left) in
+    header-yes (a .width) (a .height) (a .interlaced) (a .quality) (shiftSays (a .shift)) (a .out .now) (a .at)
+    (sym (h .header-number .ensures ∙ ap (λ m. firstNo (headerQuestions (a .width) (a .height) m (length (a .out .now)) (a .at))) (s .shift-of .ensures)) ∙ n)
+    ∙ frame-built (a .width) (a .height) (a .interlaced) (a .quality) (a .out .now) (a .at) (s .shift-of .ensures) (x .slice-count .ensures) (y .max-dc-len .ensures) (z .max-ac-len .ensures)
+    (k .header-length .ensures .0) (p .put-header .ensures)
+
+pub start-frame-spec : {M : Type 1} → statement M
+start-frame-spec =
+    tie.close
+    (tie.spec
+    (λ c κs. search needs)
+    (λ c κs. search needs)
+    returns
+    (λ c κs. search needs)
+    add-end
+    slice-count-requires
+    max-dc-len-requires
+    max-ac-len-requires
+    (λ c. search needs)
+    put-header-requires
+    (λ c. search needs)
+    returns-2)
