@@ -1,0 +1,90 @@
+// The block writers: each receives the rows from the block's corner on and stores 8 by 8 samples at the stride.
+ghost use mathlib.Core.Path.{_≡_};
+ghost use Prim.Native.Nat.{_+_, _*_, _≤_};
+ghost use lib.ListN.{length};
+ghost use Rattle.paint.specs.Paint.{storeBlock, sampleAt, putRow};
+ghost use Rattle.paint.specs.Samples.{flatSample};
+
+// Eight samples of the block, those from o on, stored from `at` on. All are read before one is stored: so they move as one word.
+pub fn put8(rows: &mut [u8], at: usize, p: &[u8; 64], o: usize)
+    requires { ⌜ (o + 8 ≤ 64) × (at + 8 ≤ length (now rows)) ⌝ }
+    ensures { λ _. ⌜ now (rows .exit) ≡ putRow (now (rows .entry)) at (now (p .entry)) o ⌝ }
+{
+    let a = p[o];
+    let b = p[o + 1];
+    let c = p[o + 2];
+    let d = p[o + 3];
+    let e = p[o + 4];
+    let f = p[o + 5];
+    let g = p[o + 6];
+    let h = p[o + 7];
+    rows[at] = a;
+    rows[at + 1] = b;
+    rows[at + 2] = c;
+    rows[at + 3] = d;
+    rows[at + 4] = e;
+    rows[at + 5] = f;
+    rows[at + 6] = g;
+    rows[at + 7] = h;
+}
+
+// The same at 16 bits.
+pub fn put16(rows: &mut [u16], at: usize, p: &[u16; 64], o: usize)
+    requires { ⌜ (o + 8 ≤ 64) × (at + 8 ≤ length (now rows)) ⌝ }
+    ensures { λ _. ⌜ now (rows .exit) ≡ putRow (now (rows .entry)) at (now (p .entry)) o ⌝ }
+{
+    let a = p[o];
+    let b = p[o + 1];
+    let c = p[o + 2];
+    let d = p[o + 3];
+    let e = p[o + 4];
+    let f = p[o + 5];
+    let g = p[o + 6];
+    let h = p[o + 7];
+    rows[at] = a;
+    rows[at + 1] = b;
+    rows[at + 2] = c;
+    rows[at + 3] = d;
+    rows[at + 4] = e;
+    rows[at + 5] = f;
+    rows[at + 6] = g;
+    rows[at + 7] = h;
+}
+
+// Stores the 8 by 8 samples of a block into the rows from its corner on.
+pub fn store8(rows: &mut [u8], stride: usize, p: &[u8; 64])
+    requires { ⌜ (8 ≤ stride) × (stride ≤ 7680) × (7 * stride + 8 ≤ length (now rows)) ⌝ }
+    ensures { λ _. ⌜ now (rows .exit) ≡ storeBlock stride (sampleAt (now (p .entry))) (now (rows .entry)) ⌝ }
+{
+    for i in 0..8 {
+        put8(rows, i * stride, p, i * 8);
+    }
+}
+
+// The same at 16 bits.
+pub fn store16(rows: &mut [u16], stride: usize, p: &[u16; 64])
+    requires { ⌜ (8 ≤ stride) × (stride ≤ 7680) × (7 * stride + 8 ≤ length (now rows)) ⌝ }
+    ensures { λ _. ⌜ now (rows .exit) ≡ storeBlock stride (sampleAt (now (p .entry))) (now (rows .entry)) ⌝ }
+{
+    for i in 0..8 {
+        put16(rows, i * stride, p, i * 8);
+    }
+}
+
+// The sample that fills a block flat: its DC plus 4, shifted right by 3, plus the level, clamped.
+pub fn flat(dc: i16, level: i16) -> u8
+    ensures { λ r. ⌜ r ≡ flatSample level dc ⌝ }
+{
+    let s = scalar::sra16(scalar::add1(dc, 4), 3);
+    scalar::packus1(scalar::add1(s, level))
+}
+
+// Fills the 8 by 8 samples at the corner with the block's DC.
+pub fn broadcast_dc8(rows: &mut [u8], stride: usize, dc: i16, level: i16)
+    requires { ⌜ (8 ≤ stride) × (stride ≤ 7680) × (7 * stride + 8 ≤ length (now rows)) ⌝ }
+    ensures { λ _. ⌜ now (rows .exit) ≡ storeBlock stride (λ i. flatSample level dc) (now (rows .entry)) ⌝ }
+{
+    let v = flat(dc, level);
+    let p = [v; 64];
+    store8(rows, stride, &p);
+}
