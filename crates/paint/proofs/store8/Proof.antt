@@ -32,7 +32,7 @@ loop-again c =
     let s = l .before .before in
     let a = s .args in
     let e =
-        put-row (a .stride) (a .p .now) (a .rows .now) (s .pre .0) (s .pre .2) (l .loop .i) (l .loop .rows) (omega arith) (l .loop .inv .2) (u .put8 .ensures) in
+    put-row (a .stride) (a .p .now) (a .rows .now) (s .pre .0) (s .pre .2) (l .loop .i) (l .loop .rows) (omega arith) (l .loop .inv .2) (u .put8 .ensures) in
     (omega arith, ap length e ∙ length-over _ _ _, e)
 
 same-length : tie.Need-same-length Inv-loop μ-loop

@@ -1,0 +1,3 @@
+pub mod Turn
+pub mod Bounds
+pub mod Examples
