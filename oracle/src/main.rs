@@ -1,6 +1,10 @@
 //! Compares the Rattle code with the published Rust.
 
 #[cfg(published)]
+mod answers;
+#[cfg(published)]
+mod bench;
+#[cfg(published)]
 mod differential;
 #[cfg(published)]
 mod gen;
@@ -20,6 +24,8 @@ fn main() -> std::process::ExitCode {
             (Ok(seconds), Ok(seed)) => differential::run(seconds, seed, layers),
             _ => usage(),
         },
+        ["answers"] => answers::run(),
+        ["bench"] => bench::run(),
         _ => usage(),
     }
 }

@@ -35,6 +35,11 @@ pub struct Code {
 /// At most `most` codes from the bit `at` on, up to the first bad one.
 pub fn read(s: &[u8], at: usize, dc: bool, most: usize) -> Vec<Code> {
     let mut out = vec![0u64; 3 * most];
-    let n = unsafe { probe_bitreader_read(s.as_ptr(), s.len(), at, dc, out.as_mut_ptr(), out.len()) };
+    let n = read_into(s, at, dc, &mut out);
     out[..n].chunks(3).map(|c| Code { run: c[0], num: c[1], end: c[2] }).collect()
+}
+
+/// As many codes as there is room for, three numbers each; how many numbers were stored.
+pub fn read_into(s: &[u8], at: usize, dc: bool, out: &mut [u64]) -> usize {
+    unsafe { probe_bitreader_read(s.as_ptr(), s.len(), at, dc, out.as_mut_ptr(), out.len()) }
 }

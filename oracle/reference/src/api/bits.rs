@@ -35,6 +35,14 @@ impl Writer {
         self.acc.reserve(&mut self.buf);
         self.acc.put_run_value(run, v, &mut self.buf);
     }
+    /// For timing: the whole room at once, as `encode_plane` reserves it a block at a time.
+    pub fn with_room(bytes: usize) -> Self {
+        Self { acc: BitAcc::default(), buf: vec![0; bytes] }
+    }
+    #[inline]
+    pub fn put_run_value_unreserved(&mut self, run: u32, v: u32) {
+        self.acc.put_run_value(run, v, &mut self.buf);
+    }
     pub fn align(&mut self) {
         self.acc.reserve(&mut self.buf);
         self.acc.align(&mut self.buf);
