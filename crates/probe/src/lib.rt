@@ -2,6 +2,7 @@
 mod arrays;
 pub mod of_bitacc;
 pub mod of_bitreader;
+pub mod of_dct;
 pub mod of_lanes;
 pub mod of_layout;
 pub mod of_shuffles;
