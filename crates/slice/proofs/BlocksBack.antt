@@ -9,7 +9,6 @@ use lib.ListN.{length, drop, length-append}
 use Rattle.slice.specs.Arguments.{Settings, Plane, PerStream, Buffers}
 use Rattle.slice.specs.Streams.{dcOf, withDc, dcStream, acStream}
 use Rattle.slice.specs.ReadPlane.{BlockRead, PlaneRead, readPlane}
-use Rattle.slice.specs.Transform.{Transform}
 use Rattle.slice.specs.Plane.{blocksOf, coefficients}
 use Rattle.slice.specs.Questions.{together}
 use Rattle.slice.specs.Calls.{lengthsOf, ownStreams, PlanesRead, planesRead, planeThen, byPlane, readPlanes}
@@ -17,7 +16,7 @@ use Rattle.slice.specs.CallLists.{Shape, shape}
 use Rattle.slice.specs.Demand3.{BlockBack, PlaneBack, PlanesBack}
 use Rattle.slice.proofs.DcNear.{dc-near, no-difference}
 use Rattle.slice.proofs.PlaneBack.{coeffsOf, dcRead, blockRead, PlaneIs, plane-back}
-use Rattle.slice.proofs.Law.{Quantised, AllQuantised, Law, plane-quantised, blocks-fit, count-is}
+use Rattle.slice.proofs.Law.{Quantised, AllQuantised, plane-quantised, blocks-fit, count-is}
 
 block-back : (shift : ℕ) (b g : List ℤ) → shift ≤ 15 → Quantised b → g ≡ blockRead shift b → BlockBack shift b g
 block-back shift [] g hs q e = absurd (omega (arith, q .sixty-four))
@@ -94,30 +93,30 @@ pub fine-join : (σ : Settings) (xs ys : List Plane) → AllFine σ xs → AllFi
 fine-join σ [] ys f g = g
 fine-join σ (x ∷ xs) ys f g = (f .0, fine-join σ xs ys (f .1) g)
 
-module _ (τ : Transform) (law : Law τ) (σ : Settings) where
+module _ (σ : Settings) where
   -- planes read one behind the other
   pub record ManyIs (ps : List Plane) (b : Buffers) (at end : PerStream) : Type 0 where
     pub got : List (List BlockRead)
     pub is : readPlanes (σ .shift) ps b at ≡ planesRead got end
-    pub back : PlanesBack (σ .shift) (map (coefficients τ σ) ps) got
+    pub back : PlanesBack (σ .shift) (map (coefficients σ) ps) got
 
-  pub none-read : (b : Buffers) (at : PerStream) → ManyIs [] b at (together at (lengthsOf (ownStreams τ σ [])))
+  pub none-read : (b : Buffers) (at : PerStream) → ManyIs [] b at (together at (lengthsOf (ownStreams σ [])))
   unfolding readPlanes ownStreams
   none-read b at = record { got = []; is = sym (λ i. planesRead [] (record { dc = add-zero (at .dc) i; ac = add-zero (at .ac) i })); back = tt }
 
   plane-at : (p : Plane) (b : Buffers) (pd qd pa qa : List ℕ) (at : PerStream) → Fine σ p
-      → b .dcBytes ≡ pd ++ (dcStream (σ .shift) (coefficients τ σ p) ++ qd) → b .acBytes ≡ pa ++ (acStream (coefficients τ σ p) ++ qa)
+      → b .dcBytes ≡ pd ++ (dcStream (σ .shift) (coefficients σ p) ++ qd) → b .acBytes ≡ pa ++ (acStream (coefficients σ p) ++ qa)
       → at .dc ≡ length pd → at .ac ≡ length pa
-      → PlaneIs (σ .shift) (coefficients τ σ p) (b .dcBytes) (b .acBytes) (at .dc) (at .ac)
-      (at .dc + length (dcStream (σ .shift) (coefficients τ σ p))) (at .ac + length (acStream (coefficients τ σ p)))
+      → PlaneIs (σ .shift) (coefficients σ p) (b .dcBytes) (b .acBytes) (at .dc) (at .ac)
+      (at .dc + length (dcStream (σ .shift) (coefficients σ p))) (at .ac + length (acStream (coefficients σ p)))
   plane-at p b pd qd pa qa at f e1 e2 e3 e4 =
       rw (e1, e2, e3, e4)
-      (plane-back (σ .shift) (coefficients τ σ p) pd qd pa qa (blocks-fit τ law σ p (f .preset-le)) (omega (arith, count-is τ law σ p (f .preset-le), f .few)))
+      (plane-back (σ .shift) (coefficients σ p) pd qd pa qa (blocks-fit σ p (f .preset-le)) (omega (arith, count-is σ p (f .preset-le), f .few)))
 
   pub many-back : (ps : List Plane) (b : Buffers) (pd qd pa qa : List ℕ) (at : PerStream) → AllFine σ ps
-      → b .dcBytes ≡ pd ++ (ownStreams τ σ ps .dcBytes ++ qd) → b .acBytes ≡ pa ++ (ownStreams τ σ ps .acBytes ++ qa)
+      → b .dcBytes ≡ pd ++ (ownStreams σ ps .dcBytes ++ qd) → b .acBytes ≡ pa ++ (ownStreams σ ps .acBytes ++ qa)
       → at .dc ≡ length pd → at .ac ≡ length pa
-      → ManyIs ps b at (together at (lengthsOf (ownStreams τ σ ps)))
+      → ManyIs ps b at (together at (lengthsOf (ownStreams σ ps)))
   unfolding readPlanes ownStreams
   many-back [] b pd qd pa qa at f e1 e2 e3 e4 = none-read b at
   many-back (p ∷ ps) b pd qd pa qa at f e1 e2 e3 e4 =
@@ -128,29 +127,29 @@ module _ (τ : Transform) (law : Law τ) (σ : Settings) where
       (ap (λ (n : ℕ). n + length D) e3 ∙ sym (length-append pd D)) (ap (λ (n : ℕ). n + length A) e4 ∙ sym (length-append pa A)))
     where
       D : List ℕ
-      D = dcStream (σ .shift) (coefficients τ σ p)
+      D = dcStream (σ .shift) (coefficients σ p)
 
       A : List ℕ
-      A = acStream (coefficients τ σ p)
+      A = acStream (coefficients σ p)
 
       R : List ℕ
-      R = ownStreams τ σ ps .dcBytes
+      R = ownStreams σ ps .dcBytes
 
       S : List ℕ
-      S = ownStreams τ σ ps .acBytes
+      S = ownStreams σ ps .acBytes
 
       end : (i : ℕ) (xs ys : List ℕ) → i + length xs + length ys ≡ i + length (xs ++ ys)
       end i xs ys = add-assoc i (length xs) (length ys) ∙ ap (λ (n : ℕ). i + n) (sym (length-append xs ys))
 
-      go : PlaneIs (σ .shift) (coefficients τ σ p) (b .dcBytes) (b .acBytes) (at .dc) (at .ac) (at .dc + length D) (at .ac + length A)
+      go : PlaneIs (σ .shift) (coefficients σ p) (b .dcBytes) (b .acBytes) (at .dc) (at .ac) (at .dc + length D) (at .ac + length A)
           → ManyIs ps b (record { dc = at .dc + length D; ac = at .ac + length A }) (record { dc = at .dc + length D + length R; ac = at .ac + length A + length S })
           → ManyIs (p ∷ ps) b at (record { dc = at .dc + length (D ++ R); ac = at .ac + length (A ++ S) })
       go x y =
           record {
             got = x .got ∷ y .got;
-            is = ap (λ (n : ℕ). byPlane (readPlane (σ .shift) n (b .dcBytes) (b .acBytes) (at .dc) (at .ac)) (λ q. readPlanes (σ .shift) ps b q)) (sym (count-is τ law σ p (f .0 .preset-le)))
+            is = ap (λ (n : ℕ). byPlane (readPlane (σ .shift) n (b .dcBytes) (b .acBytes) (at .dc) (at .ac)) (λ q. readPlanes (σ .shift) ps b q)) (sym (count-is σ p (f .0 .preset-le)))
                 ∙ ap (λ (r : PlaneRead). byPlane r (λ q. readPlanes (σ .shift) ps b q)) (x .is)
                 ∙ ap (planeThen (x .got)) (y .is)
                 ∙ (λ i. planesRead (x .got ∷ y .got) (record { dc = end (at .dc) D R i; ac = end (at .ac) A S i }));
-            back = (blocks-back (σ .shift) (coefficients τ σ p) (x .got) (f .0 .shift-le) (plane-quantised τ law σ p (f .0 .preset-le)) (x .same), y .back);
+            back = (blocks-back (σ .shift) (coefficients σ p) (x .got) (f .0 .shift-le) (plane-quantised σ p (f .0 .preset-le)) (x .same), y .back);
           }

@@ -1,17 +1,21 @@
--- What is needed of the transform and the quantiser, and what follows for a plane's blocks and streams.
+-- What the transform and the quantiser ensure, and what follows for a plane's blocks and streams.
 use mathlib.Core.Path.{_≡_, refl, sym, ap, ap₂, _∙_}
 use mathlib.Core.List.{List, [], _∷_, _++_, map}
-use Prim.Native.Nat.{ℕ, zero, suc, _+_, _*_, _^_, _-_, _/_, _≤_, _<_}
+use Prim.Native.Nat.{ℕ, zero, suc, _+_, _*_, _^_, _-_, _/_, _≤_, _<_, suc-le-suc}
 use native.Mathlib.Omega.{arith}
 use lib.IntN.{ℤ, pos, negsuc, natAbs}
 use lib.Signed.{mag}
 use lib.ListN.{length, getD, length-append}
 use Rattle.scalar.specs.Tab.{tab, tabFrom}
 use Rattle.scalar.proofs.Fill.{length-tab}
-use Rattle.slice.specs.Arguments.{Settings, Plane}
+use Rattle.fdct.specs.Forward.{forwardOf}
+use Rattle.fdct.proofs.Coefficients.{forward-abs}
+use Rattle.quant.specs.Quantise.{quantiseOf, scanOf}
+use Rattle.quant.proofs.Blocks.{scan-length}
+use Rattle.quant.proofs.Bounds.{scanned-bound, scanned-last}
+use Rattle.slice.specs.Arguments.{Depth, isTen, Settings, Plane}
 use Rattle.slice.specs.Streams.{dcOf, dcStream, acStream}
-use Rattle.slice.specs.Transform.{Transform}
-use Rattle.slice.specs.Plane.{columnsOf, blocksOf, blockCoefficients, coefficients}
+use Rattle.slice.specs.Plane.{columnsOf, blocksOf, level, lanesAt, blockCoefficients, coefficientsAt, coefficients}
 use Rattle.slice.proofs.AcBack.{Fit16}
 use Rattle.slice.proofs.PlaneBack.{Blocks64}
 use Rattle.slice.proofs.Size.{AtMost, Small, AcSmall, dc-length, ac-length}
@@ -26,8 +30,25 @@ abbrev pub AllQuantised : List (List ℤ) → Type 0
 AllQuantised [] = Unit {0}
 AllQuantised (b ∷ bs) = Quantised b × AllQuantised bs
 
-pub record Law (τ : Transform) : Type 0 where
-  pub quantised : (σ : Settings) (p : Plane) (j k : ℕ) → σ .preset ≤ 24 → Quantised (blockCoefficients τ σ p j k)
+at-most-list : (b : ℕ) (l : List ℤ) → ((i : ℕ) → i < length l → natAbs (getD l i (pos 0)) ≤ b) → AtMost b l
+at-most-list b [] h = tt
+at-most-list b (c ∷ l) h = (h 0 (omega arith), at-most-list b l (λ i k. h (suc i) (suc-le-suc k)))
+
+-- of the real transform and quantiser
+pub quantised : (depth : Depth) (preset : ℕ) (p : Plane) (j k : ℕ) → preset ≤ 24 → Quantised (blockCoefficients depth preset p j k)
+unfolding blockCoefficients
+quantised depth preset p j k h =
+    record {
+      sixty-four = scan-length Q;
+      at-most = at-most-list 2048 (scanOf Q) (λ i l. scanned-bound preset (omega arith) L (forward-abs (isTen depth) (level depth (p .place)) (lanesAt depth p j k)) i (omega (arith, scan-length Q)));
+      last = scanned-last preset (omega arith) L (forward-abs (isTen depth) (level depth (p .place)) (lanesAt depth p j k));
+    }
+  where
+    L : List ℤ
+    L = forwardOf (isTen depth) (level depth (p .place)) (lanesAt depth p j k)
+
+    Q : List ℤ
+    Q = quantiseOf preset L
 
 fit-of : (b : List ℤ) → AtMost 2048 b → Fit16 b
 fit-of [] h = tt
@@ -64,35 +85,35 @@ ac-small : (bs : List (List ℤ)) → AllQuantised bs → AcSmall bs
 ac-small [] h = tt
 ac-small (b ∷ bs) h = one-small b bs (h .0) (ac-small bs (h .1))
 
-module _ (τ : Transform) (law : Law τ) (σ : Settings) (p : Plane) (preset-le : σ .preset ≤ 24) where
-  row-quantised : (j k n : ℕ) → AllQuantised (tabFrom (blockCoefficients τ σ p j) k n)
+module _ (σ : Settings) (p : Plane) (preset-le : σ .preset ≤ 24) where
+  row-quantised : (j k n : ℕ) → AllQuantised (tabFrom (blockCoefficients (σ .depth) (σ .preset) p j) k n)
   unfolding tabFrom
   row-quantised j k zero = tt
-  row-quantised j k (suc n) = (law .quantised σ p j k preset-le, row-quantised j (suc k) n)
+  row-quantised j k (suc n) = (quantised (σ .depth) (σ .preset) p j k preset-le, row-quantised j (suc k) n)
 
   both : (xs ys : List (List ℤ)) → AllQuantised xs → AllQuantised ys → AllQuantised (xs ++ ys)
   both [] ys a b = b
   both (x ∷ xs) ys a b = (a .0, both xs ys (a .1) b)
 
-  pub plane-quantised : AllQuantised (coefficients τ σ p)
-  unfolding coefficients
+  pub plane-quantised : AllQuantised (coefficients σ p)
+  unfolding coefficientsAt
   plane-quantised =
-      both (tab (columnsOf (p .stride)) (blockCoefficients τ σ p 0)) (tab (columnsOf (p .stride)) (blockCoefficients τ σ p 1)) (row-quantised 0 0 (columnsOf (p .stride))) (row-quantised 1 0 (columnsOf (p .stride)))
+      both (tab (columnsOf (p .stride)) (blockCoefficients (σ .depth) (σ .preset) p 0)) (tab (columnsOf (p .stride)) (blockCoefficients (σ .depth) (σ .preset) p 1)) (row-quantised 0 0 (columnsOf (p .stride))) (row-quantised 1 0 (columnsOf (p .stride)))
 
-  pub blocks-fit : Blocks64 (coefficients τ σ p)
-  blocks-fit = blocks-64 (coefficients τ σ p) plane-quantised
+  pub blocks-fit : Blocks64 (coefficients σ p)
+  blocks-fit = blocks-64 (coefficients σ p) plane-quantised
 
-  pub dcs-small : AtMost 2048 (map dcOf (coefficients τ σ p))
-  dcs-small = dcs-at-most (coefficients τ σ p) plane-quantised
+  pub dcs-small : AtMost 2048 (map dcOf (coefficients σ p))
+  dcs-small = dcs-at-most (coefficients σ p) plane-quantised
 
-  pub count-is : length (coefficients τ σ p) ≡ blocksOf (p .stride)
-  unfolding coefficients
+  pub count-is : length (coefficients σ p) ≡ blocksOf (p .stride)
+  unfolding coefficientsAt
   count-is =
-      length-append (tab (columnsOf (p .stride)) (blockCoefficients τ σ p 0)) (tab (columnsOf (p .stride)) (blockCoefficients τ σ p 1))
-      ∙ (omega (arith, length-tab (columnsOf (p .stride)) (blockCoefficients τ σ p 0), length-tab (columnsOf (p .stride)) (blockCoefficients τ σ p 1)))
+      length-append (tab (columnsOf (p .stride)) (blockCoefficients (σ .depth) (σ .preset) p 0)) (tab (columnsOf (p .stride)) (blockCoefficients (σ .depth) (σ .preset) p 1))
+      ∙ (omega (arith, length-tab (columnsOf (p .stride)) (blockCoefficients (σ .depth) (σ .preset) p 0), length-tab (columnsOf (p .stride)) (blockCoefficients (σ .depth) (σ .preset) p 1)))
 
-  pub dc-fits : σ .shift ≤ 15 → length (dcStream (σ .shift) (coefficients τ σ p)) ≤ 4 * blocksOf (p .stride)
-  dc-fits h = rw (← count-is) (dc-length (σ .shift) (coefficients τ σ p) h dcs-small)
+  pub dc-fits : σ .shift ≤ 15 → length (dcStream (σ .shift) (coefficients σ p)) ≤ 4 * blocksOf (p .stride)
+  dc-fits h = rw (← count-is) (dc-length (σ .shift) (coefficients σ p) h dcs-small)
 
-  pub ac-fits : length (acStream (coefficients τ σ p)) ≤ 197 * blocksOf (p .stride)
-  ac-fits = rw (← count-is) (ac-length (coefficients τ σ p) (ac-small (coefficients τ σ p) plane-quantised))
+  pub ac-fits : length (acStream (coefficients σ p)) ≤ 197 * blocksOf (p .stride)
+  ac-fits = rw (← count-is) (ac-length (coefficients σ p) (ac-small (coefficients σ p) plane-quantised))

@@ -8,7 +8,12 @@ pub mod PlaneBack
 pub mod Size
 pub mod Law
 pub mod Asked
+pub mod Runs
 pub mod CodeList
 pub mod BlocksBack
 pub mod ReadList
 pub mod Demand3
+pub mod Samples
+pub mod Witness
+pub mod RustAnswers
+pub mod RowsOnly

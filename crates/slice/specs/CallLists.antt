@@ -6,28 +6,40 @@ use lib.ListN.{length, take, drop}
 use Rattle.ask.specs.Ask.{firstNo}
 use Rattle.slice.specs.Arguments.{Settings, Plane, Call, settingsOf, planesOf, PerStream, Buffers}
 use Rattle.slice.specs.ReadPlane.{BlockRead}
-use Rattle.slice.specs.Transform.{Transform}
 use Rattle.slice.specs.Questions.{codingQuestions, readingQuestions, together}
-use Rattle.slice.specs.Calls.{lengthsOf, Coded, ownStreams, encode, PlanesRead, badPlanes, planesRead, readPlanes, Decoded, decode}
+use Rattle.slice.specs.Calls.{lengthsOf, Coded, ownStreams, PlanesRead, badPlanes, planesRead, readPlanes, Decoded}
 
 -- what a call hands back besides lent memory
 pub record Answer : Type 0 where
   pub number : ℕ
   pub at : PerStream
 
--- ---- coding: "Each call gets the bytes that the last one left and the positions it returned"
+-- ---- lists as they run. What one call does is a relation between its arguments and its result: a definition, or a function's own contract
+
+-- after a list of coding calls: what each answered, and the positions and bytes that the last one left
 pub record CodedAll : Type 0 where
   pub answers : List Answer
   pub at : PerStream
   pub buffers : Buffers
 
-module _ (τ : Transform) where
-  unfoldable pub encodeAll : List Call → Buffers → PerStream → CodedAll
-  encodeAll [] b at = record { answers = []; at = at; buffers = b }
-  encodeAll (c ∷ cs) b at =
-      let one = encode τ c b at in
-      let rest = encodeAll cs (one .buffers) (one .at) in
-      record { answers = record { number = one .number; at = one .at } ∷ rest .answers; at = rest .at; buffers = rest .buffers }
+-- "Each call gets the bytes that the last one left and the positions it returned; nobody else writes them."
+pub data Coding (Step : Call → Buffers → PerStream → Coded → Type 0) : List Call → Buffers → PerStream → CodedAll → Type 0 where
+  codedNone : {b : Buffers} {at : PerStream} → Coding Step [] b at (record { answers = []; at = at; buffers = b })
+  codedThen : {c : Call} {cs : List Call} {b : Buffers} {at : PerStream} {one : Coded} {rest : CodedAll}
+      → Step c b at one → Coding Step cs (one .buffers) (one .at) rest
+      → Coding Step (c ∷ cs) b at (record { answers = record { number = one .number; at = one .at } ∷ rest .answers; at = rest .at; buffers = rest .buffers })
+
+-- after a list of reading calls: what each answered, with its rows at exit, and the last positions
+pub record DecodedAll : Type 0 where
+  pub answers : List Decoded
+  pub at : PerStream
+
+-- "Each call gets the positions that the last one returned; nobody writes the streams meanwhile."
+pub data Reading (Step : Call → Buffers → PerStream → Decoded → Type 0) : List Call → Buffers → PerStream → DecodedAll → Type 0 where
+  readNone : {b : Buffers} {at : PerStream} → Reading Step [] b at (record { answers = []; at = at })
+  readThen : {c : Call} {cs : List Call} {b : Buffers} {at : PerStream} {one : Decoded} {rest : DecodedAll}
+      → Step c b at one → Reading Step cs b (one .at) rest
+      → Reading Step (c ∷ cs) b at (record { answers = one ∷ rest .answers; at = rest .at })
 
 -- ---- the book: "two rows of bytes, empty at first"
 pub record Book : Type 0 where
@@ -62,46 +74,34 @@ abbrev pub AtThese : Settings → ℕ → Call → Type 0
 AtThese σ zero c = settingsOf c ≡ σ
 AtThese σ (suc n) c = Unit {0}
 
-module _ (τ : Transform) where
-  -- "and nothing changes; without one, each plane's own streams are put behind"
-  abbrev pub bookBy : ℕ → Call → Book → Book
-  bookBy zero c k = putBehind k (ownStreams τ (settingsOf c) (planesOf c))
-  bookBy (suc n) c k = k
+-- "and nothing changes; without one, each plane's own streams are put behind"
+abbrev pub bookBy : ℕ → Call → Book → Book
+bookBy zero c k = putBehind k (ownStreams (settingsOf c) (planesOf c))
+bookBy (suc n) c k = k
 
-  abbrev pub bookNext : Fed → Book → Call → Book
-  bookNext f k c = bookBy (bookNumber f k c) c k
+abbrev pub bookNext : Fed → Book → Call → Book
+bookNext f k c = bookBy (bookNumber f k c) c k
 
-  -- the book after a list of calls, and what it says to each
-  unfoldable pub bookAfter : Fed → Book → List Call → Book
-  bookAfter f k [] = k
-  bookAfter f k (c ∷ cs) = bookAfter f (bookNext f k c) cs
+-- the book after a list of calls, and what it says to each
+unfoldable pub bookAfter : Fed → Book → List Call → Book
+bookAfter f k [] = k
+bookAfter f k (c ∷ cs) = bookAfter f (bookNext f k c) cs
 
-  unfoldable pub bookAnswers : Fed → Book → List Call → List Answer
-  bookAnswers f k [] = []
-  bookAnswers f k (c ∷ cs) = record { number = bookNumber f k c; at = bookAt f (bookNext f k c) } ∷ bookAnswers f (bookNext f k c) cs
+unfoldable pub bookAnswers : Fed → Book → List Call → List Answer
+bookAnswers f k [] = []
+bookAnswers f k (c ∷ cs) = record { number = bookNumber f k c; at = bookAt f (bookNext f k c) } ∷ bookAnswers f (bookNext f k c) cs
 
-  -- the planes of the accepted calls, in order
-  unfoldable pub planesCoded : Fed → Book → List Call → List Plane
-  planesCoded f k [] = []
-  planesCoded f k (c ∷ cs) = ifAccepted (bookNumber f k c) (planesOf c) ++ planesCoded f (bookNext f k c) cs
+-- the planes of the accepted calls, in order
+unfoldable pub planesCoded : Fed → Book → List Call → List Plane
+planesCoded f k [] = []
+planesCoded f k (c ∷ cs) = ifAccepted (bookNumber f k c) (planesOf c) ++ planesCoded f (bookNext f k c) cs
 
-  -- "the accepted ones at one depth, preset and DC shift"
-  unfoldable pub OneSetting : Settings → Fed → Book → List Call → Type 0
-  OneSetting σ f k [] = Unit {0}
-  OneSetting σ f k (c ∷ cs) = AtThese σ (bookNumber f k c) c × OneSetting σ f (bookNext f k c) cs
+-- "the accepted ones at one depth, preset and DC shift"
+unfoldable pub OneSetting : Settings → Fed → Book → List Call → Type 0
+OneSetting σ f k [] = Unit {0}
+OneSetting σ f k (c ∷ cs) = AtThese σ (bookNumber f k c) c × OneSetting σ f (bookNext f k c) cs
 
--- ---- reading: "Each call gets the positions that the last one returned; nobody writes the streams meanwhile."
-pub record DecodedAll : Type 0 where
-  pub answers : List Decoded
-  pub at : PerStream
-
-module _ (τ : Transform) where
-  unfoldable pub decodeAll : List Call → Buffers → PerStream → DecodedAll
-  decodeAll [] b at = record { answers = []; at = at }
-  decodeAll (c ∷ cs) b at =
-      let one = decode τ c b at in
-      let rest = decodeAll cs b (one .at) in
-      record { answers = one ∷ rest .answers; at = rest .at }
+-- ---- reading calls for the planes that were coded
 
 -- the number that a reading call meets before question 8, 0 where it meets none
 abbrev pub numberBefore8 : Call → Buffers → PerStream → ℕ
@@ -126,13 +126,14 @@ blocksIn (suc n) r = []
 blocksIn zero badPlanes = []
 blocksIn zero (planesRead bs end) = bs
 
-module _ (τ : Transform) where
-  unfoldable pub Follows : Settings → List Plane → List Call → Buffers → PerStream → Type 0
-  Follows σ unread [] b at = Unit {0}
-  Follows σ unread (c ∷ cs) b at = FollowsBy (numberBefore8 c b at) σ unread c (λ rest. Follows σ rest cs b (decode τ c b at .at))
+-- along the answers that the calls gave
+unfoldable pub Follows : Settings → List Plane → List Call → Buffers → PerStream → List Decoded → Type 0
+Follows σ unread [] b at answers = Unit {0}
+Follows σ unread (c ∷ cs) b at [] = ⊥
+Follows σ unread (c ∷ cs) b at (r ∷ rs) = FollowsBy (numberBefore8 c b at) σ unread c (λ rest. Follows σ rest cs b (r .at) rs)
 
-  -- what the accepted calls of a list read, plane by plane
-  unfoldable pub blocksRead : List Call → Buffers → PerStream → List (List BlockRead)
-  blocksRead [] b at = []
-  blocksRead (c ∷ cs) b at =
-      blocksIn (decode τ c b at .number) (readPlanes (settingsOf c .shift) (planesOf c) b at) ++ blocksRead cs b (decode τ c b at .at)
+-- what the accepted calls of a list read, plane by plane
+unfoldable pub blocksRead : List Call → Buffers → PerStream → List Decoded → List (List BlockRead)
+blocksRead [] b at answers = []
+blocksRead (c ∷ cs) b at [] = []
+blocksRead (c ∷ cs) b at (r ∷ rs) = blocksIn (r .number) (readPlanes (settingsOf c .shift) (planesOf c) b at) ++ blocksRead cs b (r .at) rs

@@ -8,7 +8,6 @@ use Rattle.ask.specs.Ask.{firstNo}
 use Rattle.slice.specs.Arguments.{Settings, Rows, Plane, Call, onePlane, oneSlice, settingsOf, planesLent, planesOf, PerStream, Buffers}
 use Rattle.slice.specs.Streams.{dcStream, acStream}
 use Rattle.slice.specs.ReadPlane.{BlockRead, PlaneRead, badPlane, planeRead, readPlane}
-use Rattle.slice.specs.Transform.{Transform}
 use Rattle.slice.specs.Plane.{blocksOf, coefficients, reconstruct}
 use Rattle.slice.specs.Questions.{codingQuestions, readingQuestions, badCode, together}
 
@@ -24,14 +23,13 @@ pub record Coded : Type 0 where
   pub buffers : Buffers
 
 -- planes' own streams joined in order
-module _ (τ : Transform) where
-  unfoldable pub ownStreams : Settings → List Plane → Buffers
-  ownStreams σ [] = record { dcBytes = []; acBytes = [] }
-  ownStreams σ (p ∷ ps) =
-      record {
-        dcBytes = dcStream (σ .shift) (coefficients τ σ p) ++ ownStreams σ ps .dcBytes;
-        acBytes = acStream (coefficients τ σ p) ++ ownStreams σ ps .acBytes;
-      }
+unfoldable pub ownStreams : Settings → List Plane → Buffers
+ownStreams σ [] = record { dcBytes = []; acBytes = [] }
+ownStreams σ (p ∷ ps) =
+    record {
+      dcBytes = dcStream (σ .shift) (coefficients σ p) ++ ownStreams σ ps .dcBytes;
+      acBytes = acStream (coefficients σ p) ++ ownStreams σ ps .acBytes;
+    }
 
 -- the streams laid into the buffers at the positions
 abbrev pub laidAt : Buffers → PerStream → Buffers → Buffers
@@ -41,15 +39,14 @@ abbrev pub codedBy : ℕ → Buffers → Buffers → PerStream → Coded
 codedBy zero own b at = record { number = 0; at = together at (lengthsOf own); buffers = laidAt b at own }
 codedBy (suc n) own b at = record { number = suc n; at = at; buffers = b }
 
-module _ (τ : Transform) where
-  unfoldable pub encode : Call → Buffers → PerStream → Coded
-  encode c b at = codedBy (firstNo (codingQuestions c (lengthsOf b) at)) (ownStreams τ (settingsOf c) (planesOf c)) b at
+unfoldable pub encode : Call → Buffers → PerStream → Coded
+encode c b at = codedBy (firstNo (codingQuestions c (lengthsOf b) at)) (ownStreams (settingsOf c) (planesOf c)) b at
 
-  abbrev pub encodePlane : Settings → Plane → Buffers → PerStream → Coded
-  encodePlane σ p b at = encode (onePlane σ p) b at
+abbrev pub encodePlane : Settings → Plane → Buffers → PerStream → Coded
+encodePlane σ p b at = encode (onePlane σ p) b at
 
-  abbrev pub encodeSlice : Settings → ℕ → Rows → Rows → Rows → Rows → Buffers → PerStream → Coded
-  encodeSlice σ n p0 p1 p2 p3 b at = encode (oneSlice σ n p0 p1 p2 p3) b at
+abbrev pub encodeSlice : Settings → ℕ → Rows → Rows → Rows → Rows → Buffers → PerStream → Coded
+encodeSlice σ n p0 p1 p2 p3 b at = encode (oneSlice σ n p0 p1 p2 p3) b at
 
 -- ---- reading
 
@@ -81,23 +78,22 @@ abbrev pub rowsOf : List Plane → List (List ℕ)
 rowsOf [] = []
 rowsOf (p ∷ ps) = p .samples ∷ rowsOf ps
 
-module _ (τ : Transform) where
-  -- the rows made from what was read; those of planes that were not read stay
-  unfoldable pub rowsMade : Settings → List Plane → List (List BlockRead) → List (List ℕ)
-  rowsMade σ [] bs = []
-  rowsMade σ (p ∷ ps) [] = rowsOf (p ∷ ps)
-  rowsMade σ (p ∷ ps) (b ∷ bs) = reconstruct τ σ p b ∷ rowsMade σ ps bs
+-- the rows made from what was read; those of planes that were not read stay
+unfoldable pub rowsMade : Settings → List Plane → List (List BlockRead) → List (List ℕ)
+rowsMade σ [] bs = []
+rowsMade σ (p ∷ ps) [] = rowsOf (p ∷ ps)
+rowsMade σ (p ∷ ps) (b ∷ bs) = reconstruct σ p b ∷ rowsMade σ ps bs
 
-  abbrev pub decodedBy : ℕ → Call → PerStream → PlanesRead → Decoded
-  decodedBy (suc n) c at r = record { number = suc n; at = at; rows = rowsOf (planesLent c) }
-  decodedBy zero c at badPlanes = record { number = badCode; at = at; rows = rowsOf (planesLent c) }
-  decodedBy zero c at (planesRead bs end) = record { number = 0; at = end; rows = rowsMade (settingsOf c) (planesLent c) bs }
+abbrev pub decodedBy : ℕ → Call → PerStream → PlanesRead → Decoded
+decodedBy (suc n) c at r = record { number = suc n; at = at; rows = rowsOf (planesLent c) }
+decodedBy zero c at badPlanes = record { number = badCode; at = at; rows = rowsOf (planesLent c) }
+decodedBy zero c at (planesRead bs end) = record { number = 0; at = end; rows = rowsMade (settingsOf c) (planesLent c) bs }
 
-  unfoldable pub decode : Call → Buffers → PerStream → Decoded
-  decode c b at = decodedBy (firstNo (readingQuestions c (lengthsOf b) at)) c at (readPlanes (settingsOf c .shift) (planesOf c) b at)
+unfoldable pub decode : Call → Buffers → PerStream → Decoded
+decode c b at = decodedBy (firstNo (readingQuestions c (lengthsOf b) at)) c at (readPlanes (settingsOf c .shift) (planesOf c) b at)
 
-  abbrev pub decodePlane : Settings → Plane → Buffers → PerStream → Decoded
-  decodePlane σ p b at = decode (onePlane σ p) b at
+abbrev pub decodePlane : Settings → Plane → Buffers → PerStream → Decoded
+decodePlane σ p b at = decode (onePlane σ p) b at
 
-  abbrev pub decodeSlice : Settings → ℕ → Rows → Rows → Rows → Rows → Buffers → PerStream → Decoded
-  decodeSlice σ n p0 p1 p2 p3 b at = decode (oneSlice σ n p0 p1 p2 p3) b at
+abbrev pub decodeSlice : Settings → ℕ → Rows → Rows → Rows → Rows → Buffers → PerStream → Decoded
+decodeSlice σ n p0 p1 p2 p3 b at = decode (oneSlice σ n p0 p1 p2 p3) b at

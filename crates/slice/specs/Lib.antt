@@ -1,7 +1,6 @@
 pub mod Arguments
 pub mod Streams
 pub mod ReadPlane
-pub mod Transform
 pub mod Plane
 pub mod Questions
 pub mod Calls

@@ -6,10 +6,14 @@ use lib.IntN.{ℤ, pos}
 use lib.Dec.{ltb, eqb}
 use lib.ListN.{getD, replicate}
 use Rattle.scalar.specs.Tab.{tab}
+use Rattle.fdct.specs.Forward.{forwardOf}
+use Rattle.quant.specs.Quantise.{quantiseOf, scanOf, naturalOf, dequantiseOf}
+use Rattle.idct.specs.Inverse.{inverseOf, samplesOf}
+use Rattle.paint.specs.Paint.{over}
+use Rattle.paint.specs.Samples.{flatSample}
 use Rattle.slice.specs.Arguments.{Depth, eight, ten, isTen, Settings, Plane}
 use Rattle.slice.specs.Streams.{dcOf}
 use Rattle.slice.specs.ReadPlane.{BlockRead}
-use Rattle.slice.specs.Transform.{Transform}
 
 -- where the sample of a row and a column lies
 abbrev pub sampleIndex : ℕ → ℕ → ℕ → ℕ
@@ -38,11 +42,6 @@ middleOf ten = pos 512
 abbrev pub level : Depth → ℕ → ℤ
 level depth place = cond (eqb place 0 || eqb place 3) (middleOf depth) (pos 0)
 
--- each element made anew from its place, counted from n, and what stood there
-unfoldable pub remade : (ℕ → ℕ → ℕ) → ℕ → List ℕ → List ℕ
-remade f n [] = []
-remade f n (x ∷ xs) = f n x ∷ remade f (suc n) xs
-
 -- the block that the sample at i lies in, blocks "left to right, upper eight rows first", and its place among that block's 64
 abbrev pub blockAt : ℕ → ℕ → ℕ
 blockAt stride i = i / stride / 8 * columnsOf stride + i % stride / 8
@@ -54,36 +53,37 @@ withinBlock stride i = i / stride % 8 * 8 + i % stride % 8
 unfoldable pub lanesAt : Depth → Plane → ℕ → ℕ → List ℤ
 lanesAt depth p j k = tab 64 (λ i. laneOf depth (sampleAt p (8 * j + i / 8) (8 * k + i % 8)))
 
--- "Each block is decoded into the part of the lent rows that begins at its corner; the rest of the rows stays."
+-- the sample at i: that of its block, or behind the 16 rows what stood there
 abbrev pub sampleFrom : List (List ℕ) → ℕ → ℕ → ℕ → ℕ
 sampleFrom blocks stride i old = cond (ltb i (16 * stride)) (getD (getD blocks (blockAt stride i) []) (withinBlock stride i) 0) old
 
-module _ (τ : Transform) where
-  -- "A plane's coefficients are those after forward transform and quantiser", in scan order
-  unfoldable pub blockCoefficients : Settings → Plane → ℕ → ℕ → List ℤ
-  blockCoefficients σ p j k =
-      τ .scanOf (τ .quantiseOf (σ .preset) (τ .forwardOf (isTen (σ .depth)) (level (σ .depth) (p .place)) (lanesAt (σ .depth) p j k)))
+-- "A plane's coefficients are those after forward transform and quantiser", in scan order: by depth, preset and plane alone
+unfoldable pub blockCoefficients : Depth → ℕ → Plane → ℕ → ℕ → List ℤ
+blockCoefficients depth preset p j k = scanOf (quantiseOf preset (forwardOf (isTen depth) (level depth (p .place)) (lanesAt depth p j k)))
 
-  -- "Blocks go left to right, upper eight rows first."
-  unfoldable pub coefficients : Settings → Plane → List (List ℤ)
-  coefficients σ p = tab (columnsOf (p .stride)) (blockCoefficients σ p 0) ++ tab (columnsOf (p .stride)) (blockCoefficients σ p 1)
+-- "Blocks go left to right, upper eight rows first."
+unfoldable pub coefficientsAt : Depth → ℕ → Plane → List (List ℤ)
+coefficientsAt depth preset p = tab (columnsOf (p .stride)) (blockCoefficients depth preset p 0) ++ tab (columnsOf (p .stride)) (blockCoefficients depth preset p 1)
 
-  -- the 64 samples of a block by the inverse transform
-  unfoldable pub transformed : Settings → ℕ → BlockRead → List ℕ
-  transformed σ place b =
-      map (τ .sampleOf (isTen (σ .depth)))
-      (τ .inverseOf (isTen (σ .depth)) (level (σ .depth) place) (τ .dequantiseOf (isTen (σ .depth)) (σ .preset) (τ .naturalOf (b .coeffs))))
+abbrev pub coefficients : Settings → Plane → List (List ℤ)
+coefficients σ p = coefficientsAt (σ .depth) (σ .preset) p
 
-  unfoldable pub filledFlat : ℕ → BlockRead → List ℕ
-  filledFlat place b = replicate 64 (τ .flatSample (level eight place) (dcOf (b .coeffs)))
+-- the 64 samples of a block by the inverse transform
+unfoldable pub transformed : Depth → ℕ → ℕ → BlockRead → List ℕ
+transformed depth preset place b =
+    samplesOf (isTen depth) (inverseOf (isTen depth) (level depth place) (dequantiseOf (isTen depth) preset (naturalOf (b .coeffs))))
 
-  -- "An 8-bit block is filled flat when no AC symbol was read for it; otherwise the inverse transform runs. A 10-bit block is always transformed."
-  abbrev pub byDepth : Depth → Settings → ℕ → BlockRead → List ℕ
-  byDepth eight σ place b = cond (b .symbolRead) (transformed σ place b) (filledFlat place b)
-  byDepth ten σ place b = transformed σ place b
+unfoldable pub filledFlat : ℕ → BlockRead → List ℕ
+filledFlat place b = replicate 64 (flatSample (level eight place) (dcOf (b .coeffs)))
 
-  unfoldable pub samplesOf : Settings → ℕ → BlockRead → List ℕ
-  samplesOf σ place b = byDepth (σ .depth) σ place b
+-- "An 8-bit block is filled flat when no AC symbol was read for it; otherwise the inverse transform runs. A 10-bit block is always transformed."
+unfoldable pub blockSamples : Depth → ℕ → ℕ → BlockRead → List ℕ
+blockSamples eight preset place b = cond (b .symbolRead) (transformed eight preset place b) (filledFlat place b)
+blockSamples ten preset place b = transformed ten preset place b
 
-  unfoldable pub reconstruct : Settings → Plane → List BlockRead → List ℕ
-  reconstruct σ p blocks = remade (sampleFrom (map (samplesOf σ (p .place)) blocks) (p .stride)) 0 (p .samples)
+-- "Each block is decoded into the part of the lent rows that begins at its corner; the rest of the rows stays."
+unfoldable pub reconstructAt : Depth → ℕ → Plane → List BlockRead → List ℕ
+reconstructAt depth preset p blocks = over (sampleFrom (map (blockSamples depth preset (p .place)) blocks) (p .stride)) 0 (p .samples)
+
+abbrev pub reconstruct : Settings → Plane → List BlockRead → List ℕ
+reconstruct σ p blocks = reconstructAt (σ .depth) (σ .preset) p blocks

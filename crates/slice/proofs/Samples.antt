@@ -1,0 +1,71 @@
+-- Document 01's entries from samples to bytes and from bytes to samples, in one table, by one proof over it.
+use mathlib.Core.Path.{_≡_, refl}
+use mathlib.Core.Bool.{Bool, true, false}
+use mathlib.Core.List.{List, [], _∷_, _++_, map}
+use Prim.Native.Nat.{ℕ, zero, suc}
+use lib.IntN.{ℤ, pos, negsuc}
+use lib.ListN.{replicate, length}
+use Rattle.scalar.specs.Scalar.{sat16, wrap16, wrap32, addsOf, subsOf, addOf, mulhiOf, mulloOf, sraOf, sllOf, orOf, packusOf}
+use Rattle.scalar.specs.Tab.{tabFrom}
+use Rattle.bits.specs.Bits.{bitsOf, halvings, bitLength, spread, valueCode, runCode, num, bitAt, toBytes, padToByte}
+use Rattle.bits.specs.Signed.{codeOf, signedOf}
+use Rattle.bits.specs.Read.{zeros, tailAt, readTail, readSymbol, readDc}
+use Rattle.bits.specs.Lay.{lay}
+use Rattle.ask.specs.Ask.{firstNo}
+use Rattle.tables.specs.Divisor.{baseMatrix, qualityFactors, divisor}
+use Rattle.tables.specs.Zigzag.{zigzag, unzigzag}
+use Rattle.quant.specs.Quantise.{withSign, roundedDivision, quantiseOf, scanOf, naturalOf, dequantised, dequantiseBy}
+use Rattle.fcol.specs.Steps as fcol
+use Rattle.frow.specs.Rows as frow
+use Rattle.fdct.specs.Forward as fdct
+use Rattle.irow.specs.RowPass as irow
+use Rattle.icol.specs.Steps as icol
+use Rattle.idct.specs.Columns as columns
+use Rattle.idct.specs.Inverse.{inverseOf, samplesOf}
+use Rattle.paint.specs.Paint.{over}
+use Rattle.paint.specs.Samples.{flatSample}
+use Rattle.slice.specs.Arguments.{eight, Settings, Plane, PerStream, Buffers}
+use Rattle.slice.specs.Streams.{codedDc, stepsFrom, stepCode, stepCodes, dcStream, symbolCodes, acStream}
+use Rattle.slice.specs.ReadPlane.{readPlaces, readBlocks, readSteps, predicted, readPlane}
+use Rattle.slice.specs.Plane.{lanesAt, blockCoefficients, coefficientsAt, transformed, filledFlat, blockSamples, reconstructAt}
+use Rattle.slice.specs.Questions.{codingQuestions, readingQuestions}
+use Rattle.slice.specs.Calls.{ownStreams, readPlanes, rowsMade, Decoded, decode, decodePlane}
+
+-- an 8-bit plane, stride 8, all samples the same
+all : ℕ → ℕ → Plane
+all place x = record { place = place; stride = 8; samples = replicate 128 x }
+
+at-shift : ℕ → Settings
+at-shift s = record { depth = eight; preset = 0; shift = s }
+
+bytes : List ℕ → List ℕ → Buffers
+bytes d a = record { dcBytes = d; acBytes = a }
+
+data Entry : Type 0 where
+  codes : ℕ → ℕ → Buffers → Entry
+  reads : Buffers → ℕ → ℕ → ℕ → List ℕ → Entry
+
+-- samples x at a shift are coded as these bytes; these bytes are read at a place, ending at d and a, as these samples
+Holds : Entry → Type 0
+Holds (codes x s b) = ownStreams (at-shift s) (all 0 x ∷ []) ≡ b
+Holds (reads b place d a samples) =
+    decodePlane (at-shift 0) (all place 7) b (record { dc = 0; ac = 0 }) ≡ record { number = 0; at = record { dc = d; ac = a }; rows = samples ∷ [] }
+
+AllHold : List Entry → Type 0
+AllHold [] = Unit {0}
+AllHold (e ∷ es) = Holds e × AllHold es
+
+table : List Entry
+table =
+    codes 128 0 (bytes (0xF0 ∷ []) (0x80 ∷ 0x80 ∷ []))
+    ∷ codes 255 0 (bytes (0x00 ∷ 0x3F ∷ 0x8E ∷ []) (0x80 ∷ 0x80 ∷ []))
+    ∷ codes 0 0 (bytes (0x00 ∷ 0x10 ∷ 0x01 ∷ 0x80 ∷ []) (0x80 ∷ 0x80 ∷ []))
+    ∷ codes 255 3 (bytes (0x01 ∷ 0xFF ∷ 0x80 ∷ []) (0x80 ∷ 0x80 ∷ []))
+    ∷ reads (bytes [] []) 0 1 32 (replicate 128 128)
+    -- block 0 is transformed, since its run was read there; block 1 is filled flat
+    ∷ reads (bytes (0x13 ∷ 0x80 ∷ []) (0x80 ∷ 0x80 ∷ [])) 1 2 2 (replicate 16 1 ++ (replicate 24 0 ++ (replicate 8 1 ++ (replicate 16 0 ++ replicate 64 1))))
+    ∷ []
+
+entries-hold : AllHold table
+unfolding table AllHold Holds all at-shift bytes ownStreams dcStream acStream padToByte toBytes num stepCodes stepCode stepsFrom codedDc symbolCodes codeOf signedOf valueCode runCode spread bitLength halvings bitsOf coefficientsAt blockCoefficients lanesAt tabFrom fcol._▸_ fcol.columnOf fcol.butterflyOf fcol.evenOf fcol.oddOf frow.ftab1 frow.ftab2 frow.ftab3 frow.ftab4 frow.tableAt frow.sideAt frow.dotOf frow.coefficientAt frow.rowsOf fdct.levelOf fdct.columnsOf fdct.transformOf fdct.forwardOf sat16 wrap16 wrap32 addsOf subsOf addOf mulhiOf mulloOf sraOf sllOf orOf packusOf quantiseOf roundedDivision withSign divisor baseMatrix qualityFactors scanOf zigzag unzigzag naturalOf dequantised dequantiseBy irow.tab04 irow.tab17 irow.tab26 irow.tab35 irow.rowLane irow.rowsOf icol._▸_ icol.oddOf icol.evenOf icol.sumOf icol.diffOf icol.joinOf icol.columnOf columns.columnAt columns.columnsOf inverseOf samplesOf over flatSample decode readPlanes rowsMade readingQuestions firstNo readPlane readBlocks readPlaces readSymbol readTail tailAt zeros bitAt readSteps readDc predicted reconstructAt blockSamples transformed filledFlat
+entries-hold = (refl, (refl, (refl, (refl, (refl, (refl, tt))))))
