@@ -1,0 +1,16 @@
+-- `dct::forward::fdct_quant_zig16`: the shared path on the loaded lanes. Assumes nothing.
+use borrow.Author.Needs.{needs, sfits-of}
+use mathlib.Core.Bool.{true}
+use Rattle.dct.proofs.Joined.{joined}
+use Rattle.dct.proofs.forward.fdct_quant_zig16.Statement.{statement}
+use Rattle.dct.proofs.forward.fdct_quant_zig16.Tie as tie
+
+returns : tie.Need-returns
+returns c =
+    let l = c .before in
+    let n = l .before in
+    let s = n .before .before in
+    joined true (s .args .preset) (s .args .level) (sfits-of (n .negated .ok)) (n .negated .ensures) (l .load16 .ensures) (c .fdct-quant-zig .ensures)
+
+pub fdct-quant-zig16-spec : {M : Type 1} → statement M
+fdct-quant-zig16-spec = tie.close (tie.spec (λ c κs. search needs) (λ c κs. search needs) (λ c κs. search needs) returns)
