@@ -17,6 +17,10 @@ pub magnitude-small : (x : ℤ) → SFits w16 x → natAbs x ≤ 32768
 magnitude-small (pos n) h = let k : n < 32768 = h .sfits in omega arith
 magnitude-small (negsuc n) h = let k : n < 32768 = h .sfits in omega arith
 
+pub magnitude-fits : (x : ℤ) → natAbs x ≤ 32767 → SFits w16 x
+magnitude-fits (pos n) h = sfits-of (omega arith)
+magnitude-fits (negsuc n) h = sfits-of (omega arith)
+
 -- the bits of the absolute value, read as unsigned, are the magnitude
 pub abs-bits : (x : ℤ) → SFits w16 x → ofZ w16 (absOf x) ≡ natAbs x
 unfolding absOf wrap16
