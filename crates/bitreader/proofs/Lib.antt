@@ -4,3 +4,4 @@ pub mod Leads
 pub mod Spans
 pub mod Looks
 pub mod Signs
+pub mod Views

@@ -88,19 +88,19 @@ run-number s p y h e l = go (s (suc p)) refl
 
 -- ---- what the code has: the head bit r, y zeros behind it, the number n, the place q
 
-value-by : (n q : ℕ) → 0 < n → symbolBy n 0 q ≡ value n q
+pub value-by : (n q : ℕ) → 0 < n → symbolBy n 0 q ≡ value n q
 value-by zero q h = absurd (not-suc-le-zero h)
 value-by (suc n) q h = refl
 
-run-by : (n q : ℕ) → 0 < n → symbolBy n 1 q ≡ run n q
+pub run-by : (n q : ℕ) → 0 < n → symbolBy n 1 q ≡ run n q
 run-by zero q h = absurd (not-suc-le-zero h)
 run-by (suc n) q h = refl
 
-step-by : (n q : ℕ) → 0 < n → dcBy n 0 q ≡ step n q
+pub step-by : (n q : ℕ) → 0 < n → dcBy n 0 q ≡ step n q
 step-by zero q h = absurd (not-suc-le-zero h)
 step-by (suc n) q h = refl
 
-zero-by : (n q : ℕ) → 0 < n → dcBy n 1 q ≡ zeroStep q
+pub zero-by : (n q : ℕ) → 0 < n → dcBy n 1 q ≡ zeroStep q
 zero-by zero q h = absurd (not-suc-le-zero h)
 zero-by (suc n) q h = refl
 
@@ -241,7 +241,7 @@ pub tail-no : (s : Stream) (p : ℕ) → zeros 55 s p ≡ 55 → 0 ≡ numberOf 
 unfolding readTail tailAt
 tail-no s p e = sym (ap numberOf (ap (tailAt s p) e))
 
-number-at : (s : Stream) (p z : ℕ) → z ≤ 54 → tailAt s p z ≡ number (num (suc (suc z)) 0 s (p + z)) (p + z + suc (suc z))
+pub number-at : (s : Stream) (p z : ℕ) → z ≤ 54 → tailAt s p z ≡ number (num (suc (suc z)) 0 s (p + z)) (p + z + suc (suc z))
 unfolding tailAt
 number-at s p z h = rw (le-leb z 54 h)
 

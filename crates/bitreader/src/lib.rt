@@ -247,13 +247,13 @@ pub fn next_dc(s: &[u8], c: AcCursor) -> Got
     requires { ⌜ At (now s) c × (c .pos < 2 ^ 60) ⌝ }
     ensures { λ r. ⌜ NextDc (now (s .entry)) c r ⌝ }
 {
-    let g = quick_dc(s, c);
-    if g.num == 0 {
-        let d = g.c;
+    let h = quick_dc(s, c);
+    if h.num == 0 {
+        let d = h.c;
         let v = long_number(s, d.pos + 1);
         longer(d, 0, v)
     } else {
-        g
+        h
     }
 }
 
