@@ -13,7 +13,4 @@ pub mod CodeList
 pub mod BlocksBack
 pub mod ReadList
 pub mod Demand3
-pub mod Samples
-pub mod Witness
-pub mod RustAnswers
 pub mod RowsOnly
