@@ -15,17 +15,17 @@ use Rattle.tables.specs.Zigzag.{zigzagAt}
 use Rattle.tables.proofs.Rounding.{rounded-bound, rounded-last}
 use Rattle.tables.proofs.Scan.{zigzag-below, zigzag-last}
 use Rattle.quant.specs.Quantise.{coefficient, roundedDivision, quantiseOf, scanOf, dequantised, dequantiseBy}
-use Rattle.quant.proofs.Signs.{with-sign-abs, magnitude-fits}
+use Rattle.quant.proofs.Signs.{with-sign-abs, magnitude-small, magnitude-fits}
 use Rattle.quant.proofs.Blocks.{quantise-at, scan-at, dequantise-at}
 
-module _ (p : ℕ) (hp : p < 25) (l : List ℤ) (h : (j : ℕ) → j < 64 → natAbs (coefficient l j) ≤ 32768) where
+module _ (p : ℕ) (hp : p < 25) (l : List ℤ) (h : (j : ℕ) → j < 64 → SFits w16 (coefficient l j)) where
   magnitude-at : (j : ℕ) → j < 64 → natAbs (coefficient (quantiseOf p l) j) ≡ rounded (natAbs (coefficient l j)) (divisor p j)
   unfolding roundedDivision
   magnitude-at j k = ap natAbs (quantise-at p l j k) ∙ with-sign-abs (coefficient l j) (rounded (natAbs (coefficient l j)) (divisor p j))
 
   -- natural order
   pub quantised-bound : (j : ℕ) → j < 64 → natAbs (coefficient (quantiseOf p l) j) ≤ 2048
-  quantised-bound j k = rw (magnitude-at j k) (rounded-bound p j hp k (natAbs (coefficient l j)) (h j k))
+  quantised-bound j k = rw (magnitude-at j k) (rounded-bound p j hp k (natAbs (coefficient l j)) (magnitude-small (coefficient l j) (h j k)))
 
   -- scan order: "a quantised coefficient lies between -2,048 and 2,048"
   pub scanned-bound : (i : ℕ) → i < 64 → natAbs (coefficient (scanOf (quantiseOf p l)) i) ≤ 2048
@@ -34,7 +34,7 @@ module _ (p : ℕ) (hp : p < 25) (l : List ℤ) (h : (j : ℕ) → j < 64 → na
   -- the last place of the scan
   pub scanned-last : natAbs (coefficient (scanOf (quantiseOf p l)) 63) ≤ 395
   scanned-last =
-      rw (scan-at (quantiseOf p l) 63 (lit< tt), zigzag-last, magnitude-at 63 (lit< tt)) (rounded-last p hp (natAbs (coefficient l 63)) (h 63 (lit< tt)))
+      rw (scan-at (quantiseOf p l) 63 (lit< tt), zigzag-last, magnitude-at 63 (lit< tt)) (rounded-last p hp (natAbs (coefficient l 63)) (magnitude-small (coefficient l 63) (h 63 (lit< tt))))
 
   pub quantised-fits : (j : ℕ) → j < 64 → SFits w16 (coefficient (quantiseOf p l) j)
   quantised-fits j k = magnitude-fits (coefficient (quantiseOf p l) j) (le-trans (quantised-bound j k) (lit≤ tt))
