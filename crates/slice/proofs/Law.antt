@@ -9,7 +9,7 @@ use lib.ListN.{length, getD, length-append}
 use Rattle.scalar.specs.Tab.{tab, tabFrom}
 use Rattle.scalar.proofs.Fill.{length-tab}
 use Rattle.fdct.specs.Forward.{forwardOf}
-use Rattle.fdct.proofs.Coefficients.{forward-abs}
+use Rattle.fdct.proofs.Coefficients.{forward-fits}
 use Rattle.quant.specs.Quantise.{quantiseOf, scanOf}
 use Rattle.quant.proofs.Blocks.{scan-length}
 use Rattle.quant.proofs.Bounds.{scanned-bound, scanned-last}
@@ -40,8 +40,8 @@ unfolding blockCoefficients
 quantised depth preset p j k h =
     record {
       sixty-four = scan-length Q;
-      at-most = at-most-list 2048 (scanOf Q) (λ i l. scanned-bound preset (omega arith) L (forward-abs (isTen depth) (level depth (p .place)) (lanesAt depth p j k)) i (omega (arith, scan-length Q)));
-      last = scanned-last preset (omega arith) L (forward-abs (isTen depth) (level depth (p .place)) (lanesAt depth p j k));
+      at-most = at-most-list 2048 (scanOf Q) (λ i l. scanned-bound preset (omega arith) L (forward-fits (isTen depth) (level depth (p .place)) (lanesAt depth p j k)) i (omega (arith, scan-length Q)));
+      last = scanned-last preset (omega arith) L (forward-fits (isTen depth) (level depth (p .place)) (lanesAt depth p j k));
     }
   where
     L : List ℤ
