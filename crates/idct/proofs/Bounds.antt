@@ -15,6 +15,8 @@ use Rattle.scalar.specs.Scalar.{packusOf}
 use Rattle.scalar.specs.Tab.{tab}
 use Rattle.scalar.proofs.Fill.{length-tab, getD-tab}
 use Rattle.irow.specs.RowPass.{lane, rowsOf}
+use Rattle.irow.specs.Stages.{pairUpOf, pairedRows, inverseTab}
+use Rattle.irow.proofs.Pass.{rows-law}
 use Rattle.paint.specs.Samples.{tenOf, sampleOf, flatSample}
 use Rattle.paint.specs.Paint.{sampleAt}
 use Rattle.idct.specs.Columns.{eightAt, columnAt, columnsOf}
@@ -84,7 +86,7 @@ ten-mul z e f = record { fits = small (natAbs z) (ten-small z e f) }
     small n h = omega arith
 
 -- the passes in order
-pub whole : (ten : Bool) (level : ℤ) (a : List ℤ) {w v : List ℤ} {p : List ℕ} → w ≡ rowsOf (rowRound ten) (rowShift ten) a
+pub whole : (ten : Bool) (level : ℤ) (a t : List ℤ) {b w v : List ℤ} {p : List ℕ} → t ≡ inverseTab → b ≡ pairUpOf a → w ≡ pairedRows (rowRound ten) (rowShift ten) b t
     → v ≡ columnsOf (colRound ten) (colCorr ten) (colShift ten) level w → p ≡ samplesOf ten v → p ≡ samplesOf ten (inverseOf ten level a)
 unfolding inverseOf
-whole ten level a e f g = rw (g, f, e) refl
+whole ten level a t et eb e f g = rw (g, f, e, eb, et, rows-law (rowRound ten) (rowShift ten) a) refl

@@ -111,8 +111,9 @@ pub fn inverse8(a: [i16; 64], level: i16, t: &[i16; 256]) -> [u8; 64]
     requires { ⌜ now t ≡ inverseTab ⌝ }
     ensures { λ r. ⌜ r ≡ samplesOf false (inverseOf false level a) ⌝ }
 {
+    let b = irow::pair_up(a);
     let mut x = [0i16; 64];
-    let w = irow::rows(a, 1024, 11, t, &mut x);
+    let w = irow::paired_rows(&b, 1024, 11, t, &mut x);
     let v = columns(w, 32, 31, 6, level);
     bytes(v)
 }
@@ -122,8 +123,9 @@ pub fn inverse16(a: [i16; 64], level: i16, t: &[i16; 256]) -> [u16; 64]
     requires { ⌜ now t ≡ inverseTab ⌝ }
     ensures { λ r. ⌜ r ≡ samplesOf true (inverseOf true level a) ⌝ }
 {
+    let b = irow::pair_up(a);
     let mut x = [0i16; 64];
-    let w = irow::rows(a, 2048, 12, t, &mut x);
+    let w = irow::paired_rows(&b, 2048, 12, t, &mut x);
     let v = columns(w, 16, 15, 5, level);
     words(v)
 }

@@ -3,7 +3,6 @@
 ghost use mathlib.Core.Path.{_≡_};
 ghost use Prim.Native.Nat.{_+_, _≤_, _<_};
 ghost use lib.ListN.{length};
-ghost use Rattle.irow.specs.RowPass.{rowsOf};
 ghost use Rattle.irow.specs.Stages.{setRow, pairUpOf, spreadOf, pairsOf, inverseTab, pairedRows, evenOf, sumLane, diffLane, byFour, foldOf};
 
 // The tables of the eight rows, by group: numbers 0 and 2, 4 and 6, 1 and 3, 5 and 7.
@@ -432,7 +431,8 @@ pub fn fold(lo: [i16; 32], hi: [i16; 32]) -> [i16; 64]
     w
 }
 
-// The row pass on a block whose rows pair_up ordered. x is scratch: what it holds afterwards is free.
+// The row pass on a block whose rows pair_up ordered; with table()'s table it is rowsOf (proofs/Pass, rows-law).
+// x is scratch: what it holds afterwards is free. pair_up stays with the caller, so that its block goes through memory and each pair is one load.
 pub fn paired_rows(
     a: &[i16; 64],
     round: i32,
@@ -454,13 +454,4 @@ pub fn paired_rows(
     let lo = sums(&m0, &m1, &m2, &m3, round, shift);
     let hi = diffs(&m0, &m1, &m2, &m3, round, shift);
     fold(lo, hi)
-}
-
-// The row pass. The table is table()'s; x is scratch: what it holds afterwards is free.
-pub fn rows(a: [i16; 64], round: i32, shift: u32, t: &[i16; 256], x: &mut [i16; 64]) -> [i16; 64]
-    requires { ⌜ (shift < 32) × (now t ≡ inverseTab) × (length (now x) ≡ 64) ⌝ }
-    ensures { λ r. ⌜ r ≡ rowsOf round shift a ⌝ }
-{
-    let b = pair_up(a);
-    paired_rows(&b, round, shift, t, x)
 }

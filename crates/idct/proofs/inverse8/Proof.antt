@@ -9,11 +9,12 @@ returns : tie.Need-returns
 returns c =
     let v = c .before in
     let w = v .before in
-    let s = w .before .before in
-    whole false (s .args .level) (s .args .a) (w .rows .ensures) (rw (toZ-ofZ (s .fits .level)) at (v .columns .ensures)) (c .bytes .ensures)
+    let u = w .before .before .before in
+    let s = u .before in
+    whole false (s .args .level) (s .args .a) (s .args .t .now) (s .pre) (u .pair-up .ensures) (w .paired-rows .ensures) (rw (toZ-ofZ (s .fits .level)) at (v .columns .ensures)) (c .bytes .ensures)
 
 pub inverse8-spec : {M : Type 1} → statement M
 inverse8-spec =
     tie.close
     (tie.spec
-    (λ c κs. search needs) (λ c κs. search needs) (λ c κs. search needs) returns)
+    (λ c κs. search needs) (λ c κs. search needs) (λ c κs. search needs) (λ c κs. search needs) returns)
