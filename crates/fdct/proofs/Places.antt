@@ -6,15 +6,15 @@ use native.Mathlib.Nat.{mul-le-mul-right}
 use Rattle.fcol.specs.declared.Lanes.{Lanes}
 use Rattle.fdct.specs.Forward.{laneAt}
 
--- rows of samples: a turn loads half a row
-pub rows-fit : (h stride : ℕ) → h < 16 → h / 2 * stride ≤ 7 * stride
-rows-fit h stride p = mul-le-mul-right stride (omega arith)
+-- rows of samples: a turn loads a row
+pub rows-fit : (r stride : ℕ) → r < 8 → r * stride ≤ 7 * stride
+rows-fit r stride p = mul-le-mul-right stride (omega arith)
 
-pub load-place : (h stride k i q : ℕ) → k < 4 → i ≡ 4 * h + k → q ≡ h / 2 * stride + 4 * (h % 2) + k → q ≡ i / 8 * stride + i % 8
-load-place h stride k i q l e p =
-    let a : i / 8 ≡ h / 2 = omega arith in
-    let b : i % 8 ≡ 4 * (h % 2) + k = omega arith in
-    rw (a, b) (omega arith)
+pub load-place : (r stride k i q : ℕ) → k < 8 → i ≡ 8 * r + k → q ≡ r * stride + k → q ≡ i / 8 * stride + i % 8
+load-place r stride k i q l e p =
+    let a : i / 8 ≡ r = omega arith in
+    let b : i % 8 ≡ k = omega arith in
+    rw (a, b) p
 
 -- a column's lane r stands at j + 8 r
 pub column-place : (L : ℕ → Lanes) (j r i : ℕ) → j < 8 → i ≡ j + 8 * r → laneAt (L j) r ≡ laneAt (L (i % 8)) (i / 8)

@@ -1,4 +1,5 @@
 pub mod Turns
 pub mod Places
+pub mod Opposite
 pub mod Wrap
 pub mod Whole

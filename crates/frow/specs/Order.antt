@@ -1,13 +1,40 @@
 -- The row pass in the order in which the code takes it: sums and differences side by side, products in pairs, pairs added.
 use mathlib.Core.Bool.{Bool}
 use mathlib.Core.List.{List}
-use Prim.Native.Nat.{ℕ, _+_, _*_, _/_, _%_}
+use Prim.Native.Nat.{ℕ, _+_, _-_, _*_, _/_, _%_}
 use lib.IntN.{ℤ, pos}
-use lib.Dec.{ltb}
+use lib.Dec.{eqb, ltb}
 use mir.Val.{sel}
-use Rattle.scalar.specs.Scalar.{sat16, maddOf, add32Of, sraOf}
+use Rattle.scalar.specs.Scalar.{sat16, addsOf, subsOf, maddOf, add32Of, sraOf}
 use Rattle.scalar.specs.Tab.{tab}
 use Rattle.frow.specs.Rows.{at, sideAt, tableAt}
+
+-- each row from right to left
+abbrev pub mirrorAt : List ℤ → ℕ → ℤ
+mirrorAt c i = at c (8 * (i / 8) + (7 - i % 8))
+
+unfoldable pub mirrorOf : List ℤ → List ℤ
+mirrorOf c = tab 64 (mirrorAt c)
+
+-- sums and differences, lane by lane
+abbrev pub sumAt : List ℤ → List ℤ → ℕ → ℤ
+sumAt c z i = addsOf (at c i) (at z i)
+
+unfoldable pub sumsOf : List ℤ → List ℤ → List ℤ
+sumsOf c z = tab 64 (sumAt c z)
+
+abbrev pub diffAt : List ℤ → List ℤ → ℕ → ℤ
+diffAt c z i = subsOf (at c i) (at z i)
+
+unfoldable pub diffsOf : List ℤ → List ℤ → List ℤ
+diffsOf c z = tab 64 (diffAt c z)
+
+-- two lanes of s and two of d in turn, from the left half of each row
+abbrev pub weaveAt : List ℤ → List ℤ → ℕ → ℤ
+weaveAt s d i = sel (eqb (i / 2 % 2) 0) (at s (8 * (i / 8) + (2 * (i / 4 % 2) + i % 2))) (at d (8 * (i / 8) + (2 * (i / 4 % 2) + i % 2)))
+
+unfoldable pub weaveOf : List ℤ → List ℤ → List ℤ
+weaveOf s d = tab 64 (weaveAt s d)
 
 -- of each row: s0 s1 d0 d1 s2 s3 d2 d3
 abbrev pub sidesAt : List ℤ → ℕ → ℤ

@@ -5,7 +5,7 @@ mod parts;
 
 ghost use mathlib.Core.Path.{_≡_};
 ghost use Rattle.frow.specs.Rows.{rowsOf};
-ghost use Rattle.frow.specs.Order.{sidesOf, swapOf, tablePart, pairsOf, tailOf, halfOf, joinOf};
+ghost use Rattle.frow.specs.Order.{mirrorOf, sumsOf, diffsOf, weaveOf, sidesOf, swapOf, pairsOf, tailOf, halfOf, joinOf};
 use scalar::add32;
 use scalar::adds1;
 use scalar::madd1;
@@ -13,25 +13,68 @@ use scalar::sat;
 use scalar::sra32;
 use scalar::subs1;
 
-// Sums and differences of opposite lanes of each row.
-pub fn sides(c: [i16; 64]) -> [i16; 64]
-    ensures { λ r. ⌜ r ≡ sidesOf c ⌝ }
+// Each row from right to left.
+pub fn mirror(c: [i16; 64]) -> [i16; 64]
+    ensures { λ r. ⌜ r ≡ mirrorOf c ⌝ }
 {
     let mut x = [0i16; 64];
     for h in 0..16 {
         let o = 4 * h;
-        let n = o - 2 * (h % 2);
-        let m = o + 7 - 6 * (h % 2);
-        let a = c[n];
-        let b = c[n + 1];
-        let d = c[m];
-        let e = c[m - 1];
-        x[o] = adds1(a, d);
-        x[o + 1] = adds1(b, e);
-        x[o + 2] = subs1(a, d);
-        x[o + 3] = subs1(b, e);
+        let p = 8 * (h / 2) + 7 - 4 * (h % 2);
+        x[o] = c[p];
+        x[o + 1] = c[p - 1];
+        x[o + 2] = c[p - 2];
+        x[o + 3] = c[p - 3];
     }
     x
+}
+
+// Saturating sums, lane by lane.
+pub fn sums(c: [i16; 64], z: [i16; 64]) -> [i16; 64]
+    ensures { λ r. ⌜ r ≡ sumsOf c z ⌝ }
+{
+    let mut x = [0i16; 64];
+    for i in 0..64 {
+        x[i] = adds1(c[i], z[i]);
+    }
+    x
+}
+
+// Saturating differences, lane by lane.
+pub fn diffs(c: [i16; 64], z: [i16; 64]) -> [i16; 64]
+    ensures { λ r. ⌜ r ≡ diffsOf c z ⌝ }
+{
+    let mut x = [0i16; 64];
+    for i in 0..64 {
+        x[i] = subs1(c[i], z[i]);
+    }
+    x
+}
+
+// Two lanes of s and two of d in turn, from the left half of each row.
+pub fn weave(s: [i16; 64], d: [i16; 64]) -> [i16; 64]
+    ensures { λ r. ⌜ r ≡ weaveOf s d ⌝ }
+{
+    let mut x = [0i16; 64];
+    for h in 0..16 {
+        let o = 4 * h;
+        let n = 8 * (h / 2) + 2 * (h % 2);
+        x[o] = s[n];
+        x[o + 1] = s[n + 1];
+        x[o + 2] = d[n];
+        x[o + 3] = d[n + 1];
+    }
+    x
+}
+
+// Sums and differences of opposite lanes of each row.
+pub fn sides(c: [i16; 64]) -> [i16; 64]
+    ensures { λ r. ⌜ r ≡ sidesOf c ⌝ }
+{
+    let z = mirror(c);
+    let s = sums(c, z);
+    let d = diffs(c, z);
+    weave(s, d)
 }
 
 // The halves of each row, swapped.
