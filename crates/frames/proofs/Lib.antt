@@ -1,0 +1,3 @@
+pub mod Put
+pub mod Back
+pub mod Read
