@@ -5,11 +5,15 @@ mod answers;
 #[cfg(published)]
 mod bench;
 #[cfg(published)]
+mod calls;
+#[cfg(published)]
 mod differential;
 #[cfg(published)]
 mod gen;
 #[cfg(published)]
 mod ours;
+#[cfg(published)]
+mod questions;
 #[cfg(published)]
 mod report;
 

@@ -75,3 +75,26 @@ pub fn put_triples(out: &mut [u16], v: [u16; 192]) {
         }
     }
 }
+
+// Copies all, where there is room; how many there are.
+pub fn copy8(s: &[u8], out: &mut [u8]) -> usize {
+    if s.len() <= out.len() {
+        let mut k = 0;
+        while k < s.len() {
+            out[k] = s[k];
+            k += 1;
+        }
+    }
+    s.len()
+}
+
+pub fn copy16(s: &[u16], out: &mut [u16]) -> usize {
+    if s.len() <= out.len() {
+        let mut k = 0;
+        while k < s.len() {
+            out[k] = s[k];
+            k += 1;
+        }
+    }
+    s.len()
+}

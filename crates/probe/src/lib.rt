@@ -2,8 +2,10 @@
 mod arrays;
 pub mod of_bitacc;
 pub mod of_bitreader;
+pub mod of_builder;
 pub mod of_dct;
 pub mod of_lanes;
 pub mod of_layout;
+pub mod of_shown;
 pub mod of_shuffles;
 pub mod of_tables;

@@ -1,6 +1,7 @@
-// The transforms of a block (crates fdct, quant).
+// The transforms of a block (crate dct).
 ghost use Prim.Native.Nat.{_<_};
-use crate::arrays::{block, put_block};
+use crate::arrays::block;
+use crate::arrays::put_block;
 
 // The column pass's shift: 1 for 10-bit samples, 3 for 8-bit samples.
 fn column_shift(ten: bool) -> u32
@@ -11,11 +12,83 @@ fn column_shift(ten: bool) -> u32
 
 // Forward transform, quantiser and scan of a block (fdct_quant_zig).
 #[no_mangle]
-pub extern "C" fn probe_dct_forward(rows: &[i16], add: i16, ten: bool, preset: usize, out: &mut [i16]) {
+pub extern "C" fn probe_dct_forward(
+    rows: &[i16],
+    add: i16,
+    ten: bool,
+    preset: usize,
+    out: &mut [i16],
+) {
     if preset < 25 {
         let k = tables::encode_numbers(preset);
-        let w = fdct::fdct(block(rows), add, column_shift(ten));
-        let q = quant::quant(w, preset, &k);
-        put_block(out, quant::zigzag(q));
+        let z = dct::forward::fdct_quant_zig(block(rows), add, column_shift(ten), preset, &k);
+        put_block(out, z);
     }
+}
+
+// Dequantising and inverse transform of a block into 8-bit samples from the corner of the rows on (idct8).
+#[no_mangle]
+pub extern "C" fn probe_dct_inverse8(
+    nat: &[i16],
+    preset: usize,
+    level: i16,
+    rows: &mut [u8],
+    stride: usize,
+) {
+    if 24 < preset {
+        return;
+    }
+    if stride < 8 {
+        return;
+    }
+    if 7680 < stride {
+        return;
+    }
+    if rows.len() < 7 * stride + 8 {
+        return;
+    }
+    let d = tables::decode_numbers(preset);
+    let t = irow::table();
+    dct::inverse::idct8(rows, stride, block(nat), preset, &d, level, &t);
+}
+
+// The same for 10-bit samples (idct16).
+#[no_mangle]
+pub extern "C" fn probe_dct_inverse16(
+    nat: &[i16],
+    preset: usize,
+    level: i16,
+    rows: &mut [u16],
+    stride: usize,
+) {
+    if 24 < preset {
+        return;
+    }
+    if stride < 8 {
+        return;
+    }
+    if 7680 < stride {
+        return;
+    }
+    if rows.len() < 7 * stride + 8 {
+        return;
+    }
+    let d = tables::decode_numbers(preset);
+    let t = irow::table();
+    dct::inverse::idct16(rows, stride, block(nat), preset, &d, level, &t);
+}
+
+// A flat block from the corner of the rows on (broadcast_dc8).
+#[no_mangle]
+pub extern "C" fn probe_dct_flat(dc: i16, level: i16, rows: &mut [u8], stride: usize) {
+    if stride < 8 {
+        return;
+    }
+    if 7680 < stride {
+        return;
+    }
+    if rows.len() < 7 * stride + 8 {
+        return;
+    }
+    dct::inverse::broadcast_dc8(rows, stride, dc, level);
 }

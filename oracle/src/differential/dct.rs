@@ -2,6 +2,7 @@
 
 use super::Run;
 use crate::gen::{self, planes};
+use crate::ours;
 use reference::api::tables::{quant, Quant, PRESETS};
 use reference::api::{dct, Depth, Path};
 
@@ -23,34 +24,56 @@ pub fn run(run: &mut Run) {
 
 fn forward(run: &mut Run, quants: &[Quant], depth: Depth, max: u16) {
     let kind = run.report.kind(format!("dct: fdct_quant_zig, {depth:?}"));
+    let paths = run.report.kind(format!("dct: the Rust's two paths agree, forward, {depth:?}"));
     let rows = planes::rows(&mut run.rng, max);
     let preset = run.rng.below(PRESETS);
-    let add = -(run.rng.pick(&LEVELS[..3]));
+    let add = (run.rng.pick(&LEVELS) as i32).wrapping_neg() as i16;
     let f = |p| dct::fdct_quant_zig(p, &rows, depth, &quants[preset].encode, add);
     let size = weight(rows.iter().flatten());
-    run.report.same(kind, &f(Path::Portable), &f(Path::Sse2), size, || format!("preset {preset} add {add} {rows:?}"));
+    let wanted = f(Path::Sse2);
+    let text = || format!("preset {preset} add {add} {rows:?}");
+    run.report.same(kind, &ours::dct::forward(&rows, depth, preset, add), &wanted, size, text);
+    run.report.same(paths, &f(Path::Portable), &wanted, size, text);
 }
 
+/// Rows with other samples between the block's and behind it: those stay.
 fn inverse(run: &mut Run, quants: &[Quant], depth: Depth) {
-    let kind = run.report.kind(format!("dct: inverse, {depth:?}"));
+    let kind = run.report.kind(format!("dct: inverse and store, {depth:?}"));
+    let paths = run.report.kind(format!("dct: the Rust's two paths agree, inverse, {depth:?}"));
     let nat = planes::coefficients(&mut run.rng);
     let preset = run.rng.below(PRESETS);
-    let add = run.rng.pick(&LEVELS);
+    let level = run.rng.pick(&LEVELS);
+    let stride = if run.rng.once_in(4) { 8 * run.rng.between(1, 4) } else { 8 };
     let m = &quants[preset].decode;
-    let f = |p| match depth {
+    let size = weight(nat.iter());
+    let text = || format!("preset {preset} level {level} stride {stride} {nat:?}");
+    let n = 7 * stride + 8 + run.rng.below(5);
+    match depth {
         Depth::Eight => {
-            let mut out = [0u8; 64];
-            dct::idct8(p, &nat, m, &mut out, 8, add);
-            out.map(|s| s as u16)
+            let before = run.rng.bytes(n);
+            let rust = |p| {
+                let mut out = before.clone();
+                dct::idct8(p, &nat, m, &mut out, stride, level);
+                out
+            };
+            let (mut out, wanted) = (before.clone(), rust(Path::Sse2));
+            ours::dct::inverse8(&nat, preset, level, &mut out, stride);
+            run.report.same(kind, &out, &wanted, size, text);
+            run.report.same(paths, &rust(Path::Portable), &wanted, size, text);
         }
         Depth::Ten => {
-            let mut out = [0u16; 64];
-            dct::idct16(p, &nat, m, &mut out, 8, add);
-            out
+            let before: Vec<u16> = (0..n).map(|_| run.rng.next() as u16).collect();
+            let rust = |p| {
+                let mut out = before.clone();
+                dct::idct16(p, &nat, m, &mut out, stride, level);
+                out
+            };
+            let (mut out, wanted) = (before.clone(), rust(Path::Sse2));
+            ours::dct::inverse16(&nat, preset, level, &mut out, stride);
+            run.report.same(kind, &out, &wanted, size, text);
+            run.report.same(paths, &rust(Path::Portable), &wanted, size, text);
         }
-    };
-    let size = weight(nat.iter());
-    run.report.same(kind, &f(Path::Portable), &f(Path::Sse2), size, || format!("preset {preset} add {add} {nat:?}"));
+    }
 }
 
 /// Blocks with few and small numbers count as small.
@@ -60,10 +83,11 @@ fn weight<'a>(lanes: impl Iterator<Item = &'a i16>) -> usize {
 
 fn flat(run: &mut Run) {
     let kind = run.report.kind("dct: broadcast_dc8");
-    let (dc, add) = (gen::lane(&mut run.rng), run.rng.pick(&LEVELS));
-    let mut out = [0u8; 64];
-    dct::broadcast_dc8(dc, &mut out, 8, add);
-    // A flat block is what the preview's rule makes of its DC, clamped.
-    let v = (dc.wrapping_add(4) >> 3).wrapping_add(add).clamp(0, 255) as u8;
-    run.report.same(kind, &out, &[v; 64], 0, || format!("dc {dc} add {add}"));
+    let (dc, level) = (gen::lane(&mut run.rng), run.rng.pick(&LEVELS));
+    let stride = 8 * run.rng.between(1, 3);
+    let before = run.rng.bytes(7 * stride + 8);
+    let (mut out, mut wanted) = (before.clone(), before);
+    dct::broadcast_dc8(dc, &mut wanted, stride, level);
+    ours::dct::flat(dc, level, &mut out, stride);
+    run.report.same(kind, &out, &wanted, 0, || format!("dc {dc} level {level} stride {stride}"));
 }

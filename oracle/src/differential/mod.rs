@@ -2,6 +2,7 @@
 //! every answer. The Rust's own two paths are compared as well.
 
 mod bits;
+mod built;
 mod dct;
 mod examples;
 mod frames;
@@ -31,7 +32,7 @@ impl Run {
 
 type Layer = (&'static str, fn(&mut Run));
 
-const LAYERS: [Layer; 8] = [
+const LAYERS: [Layer; 9] = [
     ("examples", examples::run),
     ("tables", tables::run),
     ("lanes", lanes::run),
@@ -39,6 +40,7 @@ const LAYERS: [Layer; 8] = [
     ("bits", bits::run),
     ("planes", planes::run),
     ("frames", frames::run),
+    ("built", built::run),
     ("lists", lists::run),
 ];
 

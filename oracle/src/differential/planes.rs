@@ -1,93 +1,243 @@
-//! Planes coded and read, previews, block reports.
+//! Planes coded and read, previews, block reports: each call on its own, with
+//! other bytes and samples around what it may touch.
 
 use super::Run;
+use crate::calls::{coding_number, reading_number, Buffers, Calls, Plane, Rust};
 use crate::gen::planes::{self, Made};
 use crate::gen::streams::{self, Reading};
 use crate::gen::Rng;
-use reference::api::bits::{AcSymbol, Cursor};
-use reference::api::tables::{quant, Quant, PRESETS};
-use reference::api::{slice, Path};
+use crate::questions::{self, Settings};
+use reference::api::Path;
 
 pub fn run(run: &mut Run) {
-    let quants: Vec<Quant> = (0..PRESETS).map(quant).collect();
+    let rust = Rust::new(Path::Sse2);
+    let portable = Rust::new(Path::Portable);
+    far_starts::<u8>(run, &rust, &portable);
     while run.more() {
-        for _ in 0..20 {
-            coded::<u8>(run, &quants, "8-bit");
-            coded::<u16>(run, &quants, "10-bit");
-            read::<u8>(run, &quants, "8-bit");
-            read::<u16>(run, &quants, "10-bit");
+        for _ in 0..10 {
+            both::<u8>(run, &rust, &portable, "8-bit");
+            both::<u16>(run, &rust, &portable, "10-bit");
         }
     }
 }
 
-fn coded<T: Made>(run: &mut Run, quants: &[Quant], depth: &str) {
-    let kind = run.report.kind(format!("planes: coded, {depth}"));
+fn both<T: Made>(run: &mut Run, rust: &Rust, other: &impl Calls, depth: &str) {
+    coded::<T>(run, rust, other, depth);
+    read::<T>(run, rust, other, depth);
+    coding_refused::<T>(run, rust, other);
+    reading_refused::<T>(run, rust, other);
+}
+
+/// Bytes of a buffer: junk, then room for `need` bytes, then more junk.
+fn buffer(rng: &mut Rng, need: usize) -> (Vec<u8>, usize) {
+    let at = if rng.once_in(3) { 0 } else { rng.below(30) };
+    let behind = if rng.once_in(3) { 0 } else { rng.below(20) };
+    (rng.bytes(at + need + behind), at)
+}
+
+fn text<T: std::fmt::Debug>(s: Settings, (place, stride, rows): &Plane<T>, b: &Buffers) -> String {
+    format!(
+        "{s:?} place {place} stride {stride} rows {} starts {} of {} and {} of {} {:?}",
+        rows.len(),
+        b.dc_at,
+        b.dc.len(),
+        b.ac_at,
+        b.ac.len(),
+        &rows[..rows.len().min(300)]
+    )
+}
+
+fn coded<T: Made>(run: &mut Run, rust: &Rust, other: &impl Calls, depth: &str) {
+    let kind = run.report.kind(format!("planes: coded, {depth}, {}", other.name()));
     let sizes = run.report.kind(format!("planes: streams within the size call's lengths, {depth}"));
-    let stride = planes::stride(&mut run.rng);
-    let rows: Vec<T> = planes::samples(&mut run.rng, stride);
-    let (place, preset) = (run.rng.below(4), run.rng.below(PRESETS));
-    let shift = if run.rng.once_in(2) { 0 } else { run.rng.below(16) as u32 };
-    let f = |path| slice::encode_plane(path, &rows, stride, place, &quants[preset].encode, shift);
-    let wanted = f(Path::Sse2);
-    let text = || format!("stride {stride} place {place} preset {preset} DC shift {shift} {rows:?}");
-    run.report.same(kind, &f(Path::Portable), &wanted, stride, text);
-    let blocks = stride / 4;
-    let (dc, ac) = (wanted.0.len(), wanted.1.len());
-    run.report.check(sizes, dc <= 4 * blocks && ac <= 197 * blocks, stride, || format!("{dc} {ac} {}", text()));
-}
-
-/// A plane's own streams, of samples made for the purpose.
-pub fn own<T: Made>(rng: &mut Rng, r: &Reading<T>, quants: &[Quant]) -> (Vec<u8>, Vec<u8>) {
-    let rows: Vec<T> = planes::samples(rng, r.stride);
-    slice::encode_plane(Path::Sse2, &rows, r.stride, r.place, &quants[r.preset].encode, r.dc_shift)
-}
-
-/// Ends and rows, or nothing where the Rust finds a bad code.
-pub fn decode<T: Made>(path: Path, r: &Reading<T>, quants: &[Quant]) -> Option<((usize, usize), Vec<T>)> {
-    let mut rows = r.rows.clone();
-    let m = &quants[r.preset].decode;
-    let ends =
-        slice::decode_plane(path, &mut rows, r.stride, r.place, m, r.dc_shift, (&r.dc, r.dc_at), (&r.ac, r.ac_at))?;
-    Some((ends, rows))
-}
-
-/// Preview rows and end, or nothing.
-pub fn preview<T>(r: &Reading<T>) -> Option<(usize, Vec<u8>, Vec<u8>)> {
-    let (mut a, mut b) = (vec![0x5A; r.stride / 8], vec![0x5A; r.stride / 8]);
-    let end = slice::decode_plane_preview(&mut a, &mut b, r.stride, r.place, r.dc_shift, (&r.dc, r.dc_at))?;
-    Some((end, a, b))
-}
-
-/// Flat blocks and the AC end, with the Rust's own cursor, by document 01's rule:
-/// a block is flat when no AC symbol was read for it.
-pub fn flat_blocks<T>(r: &Reading<T>) -> Option<(usize, Vec<u8>)> {
-    let mut cursor = Cursor::new(&r.ac, 8 * r.ac_at);
-    let mut pending = 0u64;
-    let mut flat = vec![];
-    for _ in 0..r.stride / 4 {
-        flat.push((pending >= 64) as u8);
-        while pending < 64 {
-            pending += match cursor.symbol()? {
-                AcSymbol::Run(n) => n,
-                AcSymbol::Value(_) => 1,
-            };
-        }
-        pending -= 64;
+    let rng = &mut run.rng;
+    let stride = planes::stride(rng);
+    let mut rows: Vec<T> = planes::samples(rng, stride);
+    // Samples behind the sixteen rows are not looked at.
+    if rng.once_in(3) {
+        rows.extend((0..rng.below(20)).map(|_| T::any(rng)));
     }
-    Some((cursor.bit_pos().div_ceil(8), flat))
+    let settings = Settings { preset: rng.below(25), dc_shift: if rng.once_in(2) { 0 } else { rng.below(16) as u32 } };
+    let plane = (rng.below(4), stride, rows);
+    let (most_dc, most_ac) = questions::sizes(stride);
+    let (dc, dc_at) = buffer(rng, most_dc);
+    let (ac, ac_at) = buffer(rng, most_ac);
+    let before = Buffers { dc, dc_at, ac, ac_at };
+    let (mut wanted, mut found) = (before.clone(), before.clone());
+    let number = rust.code_plane(settings, &plane, &mut wanted);
+    let answer = other.code_plane(settings, &plane, &mut found);
+    run.report.same(kind, &(answer, found), &(number, wanted.clone()), stride, || text(settings, &plane, &before));
+    let within = number == 0 && wanted.dc_at - dc_at <= most_dc && wanted.ac_at - ac_at <= most_ac;
+    run.report.check(sizes, within, stride, || text(settings, &plane, &before));
 }
 
-fn read<T: Made>(run: &mut Run, quants: &[Quant], depth: &str) {
-    let r: Reading<T> = streams::reading(&mut run.rng, |rng, r| own(rng, r, quants));
-    let wanted = decode(Path::Sse2, &r, quants);
-    let kind = match wanted {
-        Some(_) => run.report.kind(format!("planes: read, {depth}")),
-        None => run.report.kind(format!("planes: refused for a bad code, {depth}")),
+fn read<T: Made>(run: &mut Run, rust: &Rust, other: &impl Calls, depth: &str) {
+    let r: Reading<T> = streams::reading(&mut run.rng, |rng, r| {
+        let settings = Settings { preset: r.preset, dc_shift: r.dc_shift };
+        rust.streams::<T>(settings, &(r.place, r.stride, planes::samples(rng, r.stride)))
+    });
+    let settings = Settings { preset: r.preset, dc_shift: r.dc_shift };
+    // Samples behind the sixteen rows stay.
+    let mut rows = r.rows.clone();
+    rows.extend((0..run.rng.below(12)).map(|_| T::any(&mut run.rng)));
+    let plane = (r.place, r.stride, rows);
+    let before = Buffers { dc: r.dc.clone(), dc_at: r.dc_at, ac: r.ac.clone(), ac_at: r.ac_at };
+    let (mut p, mut b) = (plane.clone(), before.clone());
+    let wanted = rust.read_plane(settings, &mut p, &mut b);
+    let name = if wanted == 0 { "read" } else { "refused for a bad code" };
+    let kind = run.report.kind(format!("planes: {name}, {depth}, {}", other.name()));
+    let (mut q, mut c) = (plane, before.clone());
+    let found = other.read_plane(settings, &mut q, &mut c);
+    run.report.same(kind, &(found, q, c), &(wanted, p, b), r.size(), || r.text());
+    previewed(run, rust, other, &r, &before);
+    reported(run, rust, other, &r, &before);
+}
+
+fn previewed<T>(run: &mut Run, rust: &Rust, other: &impl Calls, r: &Reading<T>, before: &Buffers) {
+    let outs = |rng: &mut Rng| (rng.bytes(r.stride / 8 + 3), rng.bytes(r.stride / 8 + 5));
+    let (x, y) = outs(&mut run.rng);
+    let answer = |who: &dyn Fn([&mut [u8]; 2], &mut Buffers) -> u32| {
+        let (mut x, mut y, mut b) = (x.clone(), y.clone(), before.clone());
+        let number = who([&mut x, &mut y], &mut b);
+        (number, x, y, b)
     };
-    run.report.same(kind, &decode(Path::Portable, &r, quants), &wanted, r.size(), || r.text());
-    // The parts that need one stream only end where the whole does.
-    let ends = run.report.kind("planes: preview and block report end where the plane ends");
-    let (p, f) = (preview(&r), flat_blocks(&r));
-    let found = p.as_ref().zip(f.as_ref()).map(|(p, f)| (p.0, f.0));
-    run.report.same(ends, &found, &wanted.map(|w| w.0), r.size(), || r.text());
+    let wanted = answer(&|out, b| rust.preview(r.dc_shift, r.place, r.stride, out, b));
+    let found = answer(&|out, b| other.preview(r.dc_shift, r.place, r.stride, out, b));
+    let name = if wanted.0 == 0 { "previewed" } else { "preview refused for a bad code" };
+    let kind = run.report.kind(format!("planes: {name}, {}", other.name()));
+    run.report.same(kind, &found, &wanted, r.size(), || r.text());
+}
+
+fn reported<T>(run: &mut Run, rust: &Rust, other: &impl Calls, r: &Reading<T>, before: &Buffers) {
+    let out = run.rng.bytes(r.stride / 4 + 5);
+    let (mut x, mut b) = (out.clone(), before.clone());
+    let wanted = rust.block_report(r.stride, &mut x, &mut b);
+    let (mut y, mut c) = (out, before.clone());
+    let found = other.block_report(r.stride, &mut y, &mut c);
+    let name = if wanted == 0 { "blocks reported" } else { "block report refused for a bad code" };
+    let kind = run.report.kind(format!("planes: {name}, {}", other.name()));
+    run.report.same(kind, &(found, y, c), &(wanted, x, b), r.size(), || r.text());
+}
+
+/// A number that is mostly within, at times at the limit, past it, or anything.
+fn around(rng: &mut Rng, limit: usize) -> usize {
+    match rng.below(12) {
+        0 => limit + 1,
+        1 => rng.next() as usize,
+        2 => usize::MAX - rng.below(3),
+        3 => limit,
+        _ => rng.below(limit + 1),
+    }
+}
+
+/// Arguments of which some may be out of their limits; buffers that need `need` of a stride.
+fn arguments<T: Made>(rng: &mut Rng, need: impl Fn(usize) -> (usize, usize)) -> (Settings, Plane<T>, Buffers) {
+    let stride = match rng.below(12) {
+        0 => rng.below(20),
+        1 => rng.next() as usize,
+        2 => 7688,
+        3 => 0,
+        4 => usize::MAX - 7,
+        _ => 8 * rng.between(1, 3),
+    };
+    let small = stride.min(24);
+    let len = match rng.below(8) {
+        0 => rng.below(16 * small + 1),
+        1 => (16 * small).saturating_sub(1),
+        _ => 16 * small,
+    };
+    let place = |rng: &mut Rng, need: usize| {
+        let at = rng.below(10);
+        let (n, at) = match rng.below(10) {
+            0 => ((at + need).saturating_sub(1), at),
+            1 => (at + need, at + need + rng.below(3)),
+            2 => (at + need, rng.next() as usize),
+            3 => (at + need, usize::MAX),
+            _ => (at + need, at),
+        };
+        (rng.bytes(n), at)
+    };
+    let (dc, dc_at) = place(rng, need(small).0);
+    let (ac, ac_at) = place(rng, need(small).1);
+    let settings = Settings { preset: around(rng, 24), dc_shift: around(rng, 15) as u32 };
+    let plane = (around(rng, 3), stride, (0..len).map(|_| T::any(rng)).collect());
+    (settings, plane, Buffers { dc, dc_at, ac, ac_at })
+}
+
+/// Coding calls that are mostly refused: the number, and nothing changed.
+fn coding_refused<T: Made>(run: &mut Run, rust: &Rust, other: &impl Calls) {
+    let (settings, plane, before): (_, Plane<T>, _) = arguments(&mut run.rng, questions::sizes);
+    if coding_number(settings, std::slice::from_ref(&plane), &before) == 0 {
+        return;
+    }
+    let kind = run.report.kind(format!("planes: coding refused, questions 1 to 7, {}", other.name()));
+    let (mut b, mut c) = (before.clone(), before.clone());
+    let wanted = rust.code_plane(settings, &plane, &mut b);
+    let found = other.code_plane(settings, &plane, &mut c);
+    run.report.same(kind, &(found, c), &(wanted, b), plane.2.len(), || text(settings, &plane, &before));
+}
+
+/// Reading calls, previews and reports that are mostly refused before question 8.
+fn reading_refused<T: Made>(run: &mut Run, rust: &Rust, other: &impl Calls) {
+    let (settings, plane, before): (_, Plane<T>, _) = arguments(&mut run.rng, |_| (3, 5));
+    let size = plane.2.len();
+    if reading_number(settings, std::slice::from_ref(&plane), &before) > 0 {
+        let kind = run.report.kind(format!("planes: reading refused, questions 1 to 7, {}", other.name()));
+        let (mut p, mut b) = (plane.clone(), before.clone());
+        let (mut q, mut c) = (plane.clone(), before.clone());
+        let wanted = rust.read_plane(settings, &mut p, &mut b);
+        let found = other.read_plane(settings, &mut q, &mut c);
+        run.report.same(kind, &(found, q, c), &(wanted, p, b), size, || text(settings, &plane, &before));
+    }
+    let (m, n) = (size / 128, (size + run.rng.below(60)) / 128);
+    let (x, y) = (run.rng.bytes(m), run.rng.bytes(n));
+    let kind = run.report.kind(format!("planes: previews around their questions, {}", other.name()));
+    let answer = |who: &dyn Fn([&mut [u8]; 2], &mut Buffers) -> u32| {
+        let (mut x, mut y, mut b) = (x.clone(), y.clone(), before.clone());
+        let number = who([&mut x, &mut y], &mut b);
+        (number, x, y, b)
+    };
+    let wanted = answer(&|out, b| rust.preview(settings.dc_shift, plane.0, plane.1, out, b));
+    let found = answer(&|out, b| other.preview(settings.dc_shift, plane.0, plane.1, out, b));
+    run.report.same(kind, &found, &wanted, size, || text(settings, &plane, &before));
+    let kind = run.report.kind(format!("planes: block reports around their questions, {}", other.name()));
+    let out = run.rng.bytes(size / 64);
+    let (mut x, mut b) = (out.clone(), before.clone());
+    let (mut y, mut c) = (out, before.clone());
+    let wanted = rust.block_report(plane.1, &mut x, &mut b);
+    let found = other.block_report(plane.1, &mut y, &mut c);
+    run.report.same(kind, &(found, y, c), &(wanted, x, b), size, || text(settings, &plane, &before));
+}
+
+/// Starts at and past 16,777,215 in buffers that have the room, and streams that
+/// are longer than may be read: question 7.
+fn far_starts<T: Made>(run: &mut Run, rust: &Rust, other: &impl Calls) {
+    let kind = run.report.kind(format!("planes: around question 7's limits, {}", other.name()));
+    let settings = Settings { preset: 3, dc_shift: 1 };
+    let plane = (0, 8, vec![T::default(); 128]);
+    let (most_dc, most_ac) = questions::sizes(8);
+    for (d, a) in [(16_777_215, 3), (3, 16_777_215), (16_777_216, 3), (3, 16_777_216)] {
+        let before = Buffers { dc: vec![0x5A; d + most_dc], dc_at: d, ac: vec![0x5A; a + most_ac], ac_at: a };
+        let (mut b, mut c) = (before.clone(), before);
+        let wanted = rust.code_plane(settings, &plane, &mut b);
+        let found = other.code_plane(settings, &plane, &mut c);
+        run.report.check(kind, found == wanted && b == c, 0, || format!("coding from {d} and {a}: {found}, wanted {wanted}"));
+    }
+    for (d, a, x, y) in [
+        (245_760, 430_080, 0, 0),
+        (245_761, 3, 0, 0),
+        (3, 430_081, 0, 0),
+        (3, 3, 16_777_215, 16_777_215),
+        (3, 3, 16_777_216, 0),
+        (3, 3, 0, 16_777_216),
+    ] {
+        let before = Buffers { dc: vec![0xFF; d], dc_at: x, ac: vec![0xFF; a], ac_at: y };
+        let (mut p, mut b) = (plane.clone(), before.clone());
+        let (mut q, mut c) = (plane.clone(), before);
+        let wanted = rust.read_plane(settings, &mut p, &mut b);
+        let found = other.read_plane(settings, &mut q, &mut c);
+        run.report.check(kind, found == wanted && p == q && b == c, 0, || {
+            format!("reading {d} and {a} bytes from {x} and {y}: {found}, wanted {wanted}")
+        });
+    }
 }

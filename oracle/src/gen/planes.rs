@@ -115,7 +115,7 @@ fn fill(p: &mut [u16], stride: usize, f: impl Fn(usize, usize) -> u16) {
 }
 
 /// A sample type, and how a plane of it is made from lane values.
-pub trait Made: reference::api::slice::Sample {
+pub trait Made: reference::api::slice::Sample + Copy {
     const MAX: u16;
     fn make(rng: &mut Rng, lane: u16) -> Self;
     fn any(rng: &mut Rng) -> Self;

@@ -2,7 +2,10 @@
 //! numbers, and slices as pointer and count.
 
 pub mod bits;
+pub mod builder;
+pub mod dct;
 pub mod lanes;
 pub mod layout;
+pub mod shown;
 pub mod shuffles;
 pub mod tables;

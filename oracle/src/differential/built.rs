@@ -1,0 +1,190 @@
+//! Frames built stream by stream, and shown rows.
+
+use super::Run;
+use crate::gen::frames::{self, Parts};
+use crate::gen::Rng;
+use crate::ours::builder::{self, State};
+use crate::ours::shown;
+use reference::api::layout::{number, write, Layout};
+
+pub fn run(run: &mut Run) {
+    while run.more() {
+        for _ in 0..20 {
+            built(run);
+            out_of_turn(run);
+            header_refused(run);
+            rows(run);
+        }
+    }
+}
+
+/// The streams in their turn: kind, slice, bytes.
+fn turns(p: &Parts) -> Vec<(bool, usize, &Vec<u8>)> {
+    let dc = p.dc.iter().enumerate().map(|(slice, s)| (false, slice, s));
+    let ac = p.ac.iter().enumerate().map(|(slice, s)| (true, slice, s));
+    dc.chain(ac).collect()
+}
+
+/// A frame built whole is `write`'s; a stream past its limit is refused, which `write` does not.
+fn built(run: &mut Run) {
+    let kind = run.report.kind("frames: built, as write writes them");
+    let limits = run.report.kind("frames: streams past their limit refused by the builder");
+    let p = frames::parts(&mut run.rng);
+    let l = Layout::new(p.width, p.height).unwrap();
+    let size = (p.width, p.height);
+    let frame = write(&l, p.interlaced, p.quality as i32, p.dc_shift, &p.dc, &p.ac);
+    let at = run.rng.below(7);
+    let behind = run.rng.below(7);
+    let before = run.rng.bytes(at + frame.len() + behind);
+    let mut out = before.clone();
+    let shift = if p.dc_shift == 0 && run.rng.once_in(2) { None } else { Some(p.dc_shift) };
+    let mut state = match builder::start(size, p.interlaced, p.quality, shift, &mut out, at) {
+        Ok(state) => state,
+        Err(x) => return run.report.check(kind, false, 0, || format!("header refused with {x}: {p:?}")),
+    };
+    let mut whole = true;
+    for (ac, slice, bytes) in turns(&p) {
+        let limit = if ac { l.max_ac_len() } else { l.max_dc_len() };
+        let (was, held) = (state, out.clone());
+        let number = builder::stream(&mut state, ac, slice, bytes, &mut out);
+        if bytes.len() > limit {
+            whole = false;
+            run.report.same(limits, &(number, state, &out), &(13, was, &held), bytes.len(), || {
+                format!("ac {ac} slice {slice} of {} bytes, limit {limit}", bytes.len())
+            });
+            break;
+        }
+        if number != 0 {
+            return run.report.check(kind, false, bytes.len(), || format!("stream refused with {number}: {p:?}"));
+        }
+    }
+    if whole {
+        let mut wanted = before;
+        wanted[at..at + frame.len()].copy_from_slice(&frame);
+        run.report.same(kind, &(out, state[5]), &(wanted, at + frame.len()), frame.len(), || format!("{p:?}"));
+        // Complete: anything more is out of turn. Without AC, its first stream would still be in turn.
+        let mut full = frame.clone();
+        full.extend([0; 8]);
+        let done = if p.ac.is_empty() { (false, 0) } else { (true, l.slices()) };
+        let mut s = state;
+        s[5] = 0;
+        let held = s;
+        let found = builder::stream(&mut s, done.0, done.1, &[], &mut full);
+        run.report.same(kind, &(found, s), &(14, held), 0, || format!("after the last stream: {p:?}"));
+    }
+}
+
+/// Wrong kind, wrong slice, no room: the first no in document 01's order 6, 13, 14.
+fn out_of_turn(run: &mut Run) {
+    let kind = run.report.kind("frames: builder's streams refused, 6, 13, 14");
+    let rng = &mut run.rng;
+    let (width, height) = (16, rng.between(16, 60));
+    let l = Layout::new(width, height).unwrap();
+    let mut state: State = [l.slices(), l.max_dc_len(), l.max_ac_len(), rng.below(2), rng.below(l.slices()), 0];
+    let (ac, slice) = (rng.once_in(2), if rng.once_in(2) { state[4] } else { any_slice(rng, l.slices()) });
+    let limit = if ac { l.max_ac_len() } else { l.max_dc_len() };
+    let len = rng.pick(&[0, 3, limit, limit + 1]);
+    let room = len + 4;
+    let n = if rng.once_in(3) { rng.below(room) } else { room + rng.below(3) };
+    state[5] = rng.below(3);
+    let at = state[5];
+    let bytes = rng.bytes(len);
+    let before = rng.bytes(n);
+    let mut out = before.clone();
+    let in_turn = slice == state[4] && (ac == (state[3] == 1)) && slice < l.slices();
+    let number = if n.checked_sub(at).is_none_or(|left| left < room) {
+        6
+    } else if len > limit {
+        13
+    } else if !in_turn {
+        14
+    } else {
+        0
+    };
+    if number == 0 {
+        return;
+    }
+    let held = state;
+    let found = builder::stream(&mut state, ac, slice, &bytes, &mut out);
+    run.report.same(kind, &(found, state, &out), &(number, held, &before), len, || {
+        format!("state {held:?} ac {ac} slice {slice} of {len} bytes into {n}")
+    });
+}
+
+fn any_slice(rng: &mut Rng, slices: usize) -> usize {
+    match rng.below(3) {
+        0 => rng.next() as usize,
+        1 => slices,
+        _ => rng.below(slices),
+    }
+}
+
+/// The header's questions: 2, 6, 9.
+fn header_refused(run: &mut Run) {
+    let kind = run.report.kind("frames: builder's header refused, 2, 6, 9");
+    let rng = &mut run.rng;
+    let size = frames::any_dimensions(rng);
+    let shift = match rng.below(3) {
+        0 => None,
+        1 => Some(rng.below(18) as u32),
+        _ => Some(rng.next() as u32),
+    };
+    let n = rng.below(10);
+    let at = if rng.once_in(4) { rng.next() as usize } else { rng.below(8) };
+    let s = shift.unwrap_or(0);
+    let header = if s > 0 { 5 } else { 3 };
+    let wanted = if s > 15 {
+        2
+    } else if n.checked_sub(at).is_none_or(|left| left < header) {
+        6
+    } else if let Err(e) = Layout::new(size.0, size.1) {
+        number(e)
+    } else {
+        0
+    };
+    if wanted == 0 {
+        return;
+    }
+    let before = rng.bytes(n);
+    let mut out = before.clone();
+    let found = builder::start(size, rng.once_in(2), 80, shift, &mut out, at);
+    run.report.same(kind, &(found, &out), &(Err(wanted), &before), n, || {
+        format!("{size:?} shift {shift:?} room {n} at {at}")
+    });
+}
+
+/// The slice's sixteen rows out of the new picture where it was accepted, out of the held one where not.
+fn rows(run: &mut Run) {
+    let kind = run.report.kind("shown rows");
+    let rng = &mut run.rng;
+    let stride = if rng.once_in(6) { rng.pick(&[0, 4, 12, 7688, usize::MAX]) } else { 8 * rng.between(1, 3) };
+    let slices = rng.between(1, 4);
+    let slice = match rng.below(8) {
+        0 => slices,
+        1 => rng.pick(&[269, 270, 271, usize::MAX, usize::MAX / 128]),
+        _ => rng.below(slices),
+    };
+    let len = |rng: &mut Rng| (slices * 16 * stride.min(24)).saturating_sub(if rng.once_in(6) { 1 } else { 0 });
+    let (n, m) = (len(rng), len(rng));
+    let (new, held) = (rng.bytes(n), rng.bytes(m));
+    let verdict = if rng.once_in(2) { 0 } else { rng.pick(&[1, 8, 14, u32::MAX]) };
+    let whole = |len: usize| slice.checked_add(1).and_then(|s| s.checked_mul(16 * stride)).is_some_and(|e| e <= len);
+    let wanted = if stride % 8 != 0 || !(8..=7680).contains(&stride) {
+        Err(4)
+    } else if !whole(n) || !whole(m) {
+        Err(5)
+    } else if slice >= 270 {
+        Err(14)
+    } else {
+        let from = if verdict == 0 { &new } else { &held };
+        Ok(from[slice * 16 * stride..(slice + 1) * 16 * stride].to_vec())
+    };
+    let text = || format!("stride {stride} slice {slice} verdict {verdict} lengths {n} {m}");
+    run.report.same(kind, &shown::rows8(&new, &held, stride, slice, verdict), &wanted, n, text);
+    let wide = |v: &[u8]| -> Vec<u16> { v.iter().map(|b| 257 * *b as u16).collect() };
+    let found = shown::rows16(&wide(&new), &wide(&held), stride, slice, verdict);
+    run.report.same(kind, &found, &wanted.map(|v| wide(&v)), n, text);
+    let (a, b) = (run.rng.next(), run.rng.next());
+    let time = if verdict == 0 { a } else { b };
+    run.report.same(kind, &shown::time(a, b, verdict), &time, 0, || format!("verdict {verdict}"));
+}

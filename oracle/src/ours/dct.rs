@@ -1,0 +1,32 @@
+//! Crates dct, quant, idct and paint, by crates/probe/src/of_dct.rt.
+
+use reference::api::Depth;
+
+extern "C" {
+    fn probe_dct_forward(rows: *const i16, rn: usize, add: i16, ten: bool, preset: usize, out: *mut i16, n: usize);
+    fn probe_dct_inverse8(nat: *const i16, nn: usize, preset: usize, level: i16, rows: *mut u8, n: usize, stride: usize);
+    fn probe_dct_inverse16(nat: *const i16, nn: usize, preset: usize, level: i16, rows: *mut u16, n: usize, stride: usize);
+    fn probe_dct_flat(dc: i16, level: i16, rows: *mut u8, n: usize, stride: usize);
+}
+
+/// Forward transform, quantiser and scan of a block.
+pub fn forward(rows: &[[i16; 8]; 8], depth: Depth, preset: usize, add: i16) -> [i16; 64] {
+    let mut out = [0; 64];
+    let p = rows.as_ptr() as *const i16;
+    unsafe { probe_dct_forward(p, 64, add, depth == Depth::Ten, preset, out.as_mut_ptr(), 64) };
+    out
+}
+
+/// Dequantising and inverse transform, into rows from the block's corner on.
+pub fn inverse8(nat: &[i16; 64], preset: usize, level: i16, rows: &mut [u8], stride: usize) {
+    unsafe { probe_dct_inverse8(nat.as_ptr(), 64, preset, level, rows.as_mut_ptr(), rows.len(), stride) }
+}
+
+pub fn inverse16(nat: &[i16; 64], preset: usize, level: i16, rows: &mut [u16], stride: usize) {
+    unsafe { probe_dct_inverse16(nat.as_ptr(), 64, preset, level, rows.as_mut_ptr(), rows.len(), stride) }
+}
+
+/// A flat block.
+pub fn flat(dc: i16, level: i16, rows: &mut [u8], stride: usize) {
+    unsafe { probe_dct_flat(dc, level, rows.as_mut_ptr(), rows.len(), stride) }
+}
