@@ -1,7 +1,10 @@
 //! Writes the stored answers of the Rust that the programs `replay_*` compare
 //! ours with, where no Rust is at hand. ANSWERS.md describes the records.
 
+mod dct;
+mod frames;
 mod lanes;
+mod tables;
 
 use crate::gen::Rng;
 use std::path::PathBuf;
@@ -12,7 +15,12 @@ const SEED: u64 = 1;
 
 type List = (&'static str, fn(&mut Rng) -> (Vec<u8>, usize));
 
-const LISTS: [List; 1] = [("lanes", lanes::list)];
+const LISTS: [List; 4] = [
+    ("lanes", lanes::list),
+    ("tables", tables::list),
+    ("dct", dct::list),
+    ("frames", frames::list),
+];
 
 /// Writes crates/replay_NAME/stdin and stdout for each list.
 pub fn run() -> ExitCode {

@@ -1,0 +1,136 @@
+// Replays the Rust's answers to small frames, whole, cut and changed. A record of 96 bytes (oracle/ANSWERS.md): width,
+// height, the frame's length, a stream that is asked for, the header and the stream's place as the Rust answered them, the frame.
+use layout::FrameAnswer;
+use layout::Kind;
+use layout::ViewAnswer;
+use replay::count;
+use replay::number;
+
+fn wide(x: u8) -> usize {
+    x as usize
+}
+
+fn wide16(x: u16) -> usize {
+    x as usize
+}
+
+fn refusal(x: u8) -> u32 {
+    x as u32
+}
+
+fn flag(x: bool) -> u8 {
+    if x { 1 } else { 0 }
+}
+
+fn kind_of(ac: bool) -> Kind {
+    if ac { Kind::Ac } else { Kind::Dc }
+}
+
+// The numbers of a header that was read.
+fn same_header(b: &[u8; 96], interlaced: bool, quality: u8, shift: u8, len: usize, ac: bool) -> bool {
+    if b[7] != 0 {
+        return false;
+    }
+    if b[8] != flag(interlaced) {
+        return false;
+    }
+    if b[9] != quality {
+        return false;
+    }
+    if b[10] != shift {
+        return false;
+    }
+    if wide(b[11]) != len {
+        return false;
+    }
+    b[12] == flag(ac)
+}
+
+// The header, or its refusal.
+fn header(b: &[u8; 96], width: usize, height: usize, frame: &[u8]) -> bool {
+    match layout::parse(width, height, frame) {
+        FrameAnswer::Refused(x) => x == refusal(b[7]),
+        FrameAnswer::Frame(h) => same_header(b, h.interlaced, h.quality, h.dc_shift, h.header_len, h.ac),
+    }
+}
+
+// The place of a stream that was found.
+fn same_place(b: &[u8; 96], at: usize, len: usize) -> bool {
+    if b[13] != 0 {
+        return false;
+    }
+    if wide(b[14]) != at {
+        return false;
+    }
+    wide(b[15]) == len
+}
+
+// The place of a stream, or its refusal.
+fn place(b: &[u8; 96], width: usize, height: usize, frame: &[u8]) -> bool {
+    let kind = kind_of(b[5] == 1);
+    match layout::view_at(width, height, frame, kind, wide(b[6])) {
+        ViewAnswer::Refused(x) => x == refusal(b[13]),
+        ViewAnswer::Part(p, n) => same_place(b, p, n),
+    }
+}
+
+// The frame of a record, asked for its header.
+fn header_holds(b: &[u8; 96], s: &[u8], n: usize) -> bool {
+    let width = wide16(number(b, 0));
+    let height = wide16(number(b, 2));
+    if s.len() < 96 {
+        return false;
+    }
+    if 76 < n {
+        return false;
+    }
+    let e = 20 + n;
+    header(b, width, height, &s[20..e])
+}
+
+// The frame of a record, asked for a stream.
+fn place_holds(b: &[u8; 96], s: &[u8], n: usize) -> bool {
+    let width = wide16(number(b, 0));
+    let height = wide16(number(b, 2));
+    if s.len() < 96 {
+        return false;
+    }
+    if 76 < n {
+        return false;
+    }
+    let e = 20 + n;
+    place(b, width, height, &s[20..e])
+}
+
+fn holds(b: &[u8; 96]) -> bool {
+    if header_holds(b, b, wide(b[4])) {
+        place_holds(b, b, wide(b[4]))
+    } else {
+        false
+    }
+}
+
+// Reads and compares one record; false where there is none.
+fn turn(counts: &mut [u64; 2]) -> bool {
+    let mut b = [0u8; 96];
+    let n = io::read_full(0, &mut b);
+    if n < 96 {
+        return false;
+    }
+    let ok = holds(&b);
+    count(counts, ok);
+    true
+}
+
+fn all(counts: &mut [u64; 2]) {
+    let mut turns = 1000000u64;
+    while turns > 0 && turn(counts) {
+        turns -= 1;
+    }
+}
+
+fn main() {
+    let mut counts = [0u64; 2];
+    all(&mut counts);
+    replay::say(&counts);
+}
