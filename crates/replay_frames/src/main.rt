@@ -1,4 +1,4 @@
-// Replays the Rust's answers to small frames, whole, cut and changed. A record of 96 bytes (oracle/ANSWERS.md): width,
+// Replays the Rust's answers to small frames, whole, cut and changed. A record of 148 bytes (oracle/ANSWERS.md): width,
 // height, the frame's length, a stream that is asked for, the header and the stream's place as the Rust answered them, the frame.
 use layout::FrameAnswer;
 use layout::Kind;
@@ -27,7 +27,14 @@ fn kind_of(ac: bool) -> Kind {
 }
 
 // The numbers of a header that was read.
-fn same_header(b: &[u8; 96], interlaced: bool, quality: u8, shift: u8, len: usize, ac: bool) -> bool {
+fn same_header(
+    b: &[u8; 148],
+    interlaced: bool,
+    quality: u8,
+    shift: u8,
+    len: usize,
+    ac: bool,
+) -> bool {
     if b[7] != 0 {
         return false;
     }
@@ -47,15 +54,17 @@ fn same_header(b: &[u8; 96], interlaced: bool, quality: u8, shift: u8, len: usiz
 }
 
 // The header, or its refusal.
-fn header(b: &[u8; 96], width: usize, height: usize, frame: &[u8]) -> bool {
+fn header(b: &[u8; 148], width: usize, height: usize, frame: &[u8]) -> bool {
     match layout::parse(width, height, frame) {
         FrameAnswer::Refused(x) => x == refusal(b[7]),
-        FrameAnswer::Frame(h) => same_header(b, h.interlaced, h.quality, h.dc_shift, h.header_len, h.ac),
+        FrameAnswer::Frame(h) => {
+            same_header(b, h.interlaced, h.quality, h.dc_shift, h.header_len, h.ac)
+        }
     }
 }
 
 // The place of a stream that was found.
-fn same_place(b: &[u8; 96], at: usize, len: usize) -> bool {
+fn same_place(b: &[u8; 148], at: usize, len: usize) -> bool {
     if b[13] != 0 {
         return false;
     }
@@ -66,7 +75,7 @@ fn same_place(b: &[u8; 96], at: usize, len: usize) -> bool {
 }
 
 // The place of a stream, or its refusal.
-fn place(b: &[u8; 96], width: usize, height: usize, frame: &[u8]) -> bool {
+fn place(b: &[u8; 148], width: usize, height: usize, frame: &[u8]) -> bool {
     let kind = kind_of(b[5] == 1);
     match layout::view_at(width, height, frame, kind, wide(b[6])) {
         ViewAnswer::Refused(x) => x == refusal(b[13]),
@@ -75,13 +84,13 @@ fn place(b: &[u8; 96], width: usize, height: usize, frame: &[u8]) -> bool {
 }
 
 // The frame of a record, asked for its header.
-fn header_holds(b: &[u8; 96], s: &[u8], n: usize) -> bool {
+fn header_holds(b: &[u8; 148], s: &[u8], n: usize) -> bool {
     let width = wide16(number(b, 0));
     let height = wide16(number(b, 2));
-    if s.len() < 96 {
+    if s.len() < 148 {
         return false;
     }
-    if 76 < n {
+    if 128 < n {
         return false;
     }
     let e = 20 + n;
@@ -89,20 +98,20 @@ fn header_holds(b: &[u8; 96], s: &[u8], n: usize) -> bool {
 }
 
 // The frame of a record, asked for a stream.
-fn place_holds(b: &[u8; 96], s: &[u8], n: usize) -> bool {
+fn place_holds(b: &[u8; 148], s: &[u8], n: usize) -> bool {
     let width = wide16(number(b, 0));
     let height = wide16(number(b, 2));
-    if s.len() < 96 {
+    if s.len() < 148 {
         return false;
     }
-    if 76 < n {
+    if 128 < n {
         return false;
     }
     let e = 20 + n;
     place(b, width, height, &s[20..e])
 }
 
-fn holds(b: &[u8; 96]) -> bool {
+fn holds(b: &[u8; 148]) -> bool {
     if header_holds(b, b, wide(b[4])) {
         place_holds(b, b, wide(b[4]))
     } else {
@@ -112,9 +121,9 @@ fn holds(b: &[u8; 96]) -> bool {
 
 // Reads and compares one record; false where there is none.
 fn turn(counts: &mut [u64; 2]) -> bool {
-    let mut b = [0u8; 96];
+    let mut b = [0u8; 148];
     let n = io::read_full(0, &mut b);
-    if n < 96 {
+    if n < 148 {
         return false;
     }
     let ok = holds(&b);

@@ -1,11 +1,11 @@
-//! Records of 96 bytes: width, height, length, a stream asked for, the header
+//! Records of 148 bytes: width, height, length, a stream asked for, the header
 //! or the refusal, the stream's place or the refusal, the frame.
 
 use crate::gen::Rng;
 use reference::api::layout::{number, parse, write, Layout};
 
 /// The longest frame of a record.
-const MOST: usize = 76;
+const MOST: usize = 128;
 
 pub fn list(rng: &mut Rng) -> (Vec<u8>, usize) {
     let mut out = Vec::new();
@@ -18,6 +18,14 @@ pub fn list(rng: &mut Rng) -> (Vec<u8>, usize) {
                 let frame = write(&l, true, 80, shift, &streams(1), &ac);
                 changed(&mut out, rng, width, height, &frame);
             }
+        }
+    }
+    for height in [480, 479] {
+        let l = Layout::new(16, height).unwrap();
+        let mut dc = vec![vec![]; l.slices()];
+        dc[1] = vec![7, 8];
+        for shift in [0, 3] {
+            tall(&mut out, 16, height, &write(&l, true, 80, shift, &dc, &[]));
         }
     }
     // Few bytes, in heights that are interlaced and in sizes that are refused.
@@ -37,7 +45,7 @@ pub fn list(rng: &mut Rng) -> (Vec<u8>, usize) {
             put(&mut out, 16, height, &frame, slice % 2 == 1, slice);
         }
     }
-    let count = out.len() / 96;
+    let count = out.len() / 148;
     (out, count)
 }
 
@@ -58,11 +66,29 @@ fn changed(out: &mut Vec<u8>, rng: &mut Rng, width: usize, height: usize, frame:
         both(&[frame, &rng.bytes(more)[..]].concat());
     }
     for at in 0..frame.len() {
-        for b in [0, 1, 2, 3, 4, 16, 255, rng.next() as u8] {
+        let all = [255, rng.next() as u8, 0, 1, 2, 3, 4, 16];
+        for b in all[..if at < 5 { 8 } else { 2 }].iter().copied() {
             let mut f = frame.to_vec();
             f[at] = b;
             both(&f);
         }
+    }
+}
+
+/// A frame of 30 slices, which is interlaced at height 480: each format byte, and
+/// streams at both ends.
+fn tall(out: &mut Vec<u8>, width: usize, height: usize, frame: &[u8]) {
+    let format = if frame[0] == 3 { 2 } else { 0 };
+    for byte in 0..5 {
+        let mut f = frame.to_vec();
+        f[format] = byte;
+        for slice in [0, 1, 2, 29, 30, 255] {
+            put(out, width, height, &f, false, slice);
+            put(out, width, height, &f, true, slice);
+        }
+    }
+    for cut in (0..frame.len()).step_by(7) {
+        put(out, width, height, &frame[..cut], false, 0);
     }
 }
 
