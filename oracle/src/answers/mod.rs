@@ -1,6 +1,7 @@
 //! Writes the stored answers of the Rust that the programs `replay_*` compare
 //! ours with, where no Rust is at hand. ANSWERS.md describes the records.
 
+mod bits;
 mod dct;
 mod frames;
 mod lanes;
@@ -15,9 +16,10 @@ const SEED: u64 = 1;
 
 type List = (&'static str, fn(&mut Rng) -> (Vec<u8>, usize));
 
-const LISTS: [List; 4] = [
+const LISTS: [List; 5] = [
     ("lanes", lanes::list),
     ("tables", tables::list),
+    ("bits", bits::list),
     ("dct", dct::list),
     ("frames", frames::list),
 ];
