@@ -3,6 +3,7 @@
 use super::Run;
 use crate::gen::{self, planes};
 use crate::ours;
+use crate::report::Kind;
 use reference::api::tables::{quant, Quant, PRESETS};
 use reference::api::{dct, Depth, Path};
 
@@ -11,20 +12,41 @@ const LEVELS: [i16; 5] = [0, 128, 512, -32768, 32767];
 
 pub fn run(run: &mut Run) {
     let quants: Vec<Quant> = (0..PRESETS).map(quant).collect();
+    let kinds = [Kinds::new(run, Depth::Eight), Kinds::new(run, Depth::Ten)];
     while run.more() {
         for _ in 0..50 {
-            for (depth, max) in [(Depth::Eight, 255), (Depth::Ten, 1023)] {
-                forward(run, &quants, depth, max);
-                inverse(run, &quants, depth);
+            for k in &kinds {
+                forward(run, &quants, k);
+                inverse(run, &quants, k);
             }
             flat(run);
         }
     }
 }
 
-fn forward(run: &mut Run, quants: &[Quant], depth: Depth, max: u16) {
-    let kind = run.report.kind(format!("dct: fdct_quant_zig, {depth:?}"));
-    let paths = run.report.kind(format!("dct: the Rust's two paths agree, forward, {depth:?}"));
+struct Kinds {
+    depth: Depth,
+    forward: Kind,
+    inverse: Kind,
+    forward_paths: Kind,
+    inverse_paths: Kind,
+}
+
+impl Kinds {
+    fn new(run: &mut Run, depth: Depth) -> Self {
+        let mut kind = |name: &str| run.report.kind(format!("dct: {name}, {depth:?}"));
+        Kinds {
+            depth,
+            forward: kind("fdct_quant_zig"),
+            inverse: kind("inverse and store"),
+            forward_paths: kind("the Rust's two paths agree, forward"),
+            inverse_paths: kind("the Rust's two paths agree, inverse"),
+        }
+    }
+}
+
+fn forward(run: &mut Run, quants: &[Quant], k: &Kinds) {
+    let (depth, max) = (k.depth, if k.depth == Depth::Eight { 255 } else { 1023 });
     let rows = planes::rows(&mut run.rng, max);
     let preset = run.rng.below(PRESETS);
     let add = (run.rng.pick(&LEVELS) as i32).wrapping_neg() as i16;
@@ -32,14 +54,13 @@ fn forward(run: &mut Run, quants: &[Quant], depth: Depth, max: u16) {
     let size = weight(rows.iter().flatten());
     let wanted = f(Path::Sse2);
     let text = || format!("preset {preset} add {add} {rows:?}");
-    run.report.same(kind, &ours::dct::forward(&rows, depth, preset, add), &wanted, size, text);
-    run.report.same(paths, &f(Path::Portable), &wanted, size, text);
+    run.report.same(k.forward, &ours::dct::forward(&rows, depth, preset, add), &wanted, size, text);
+    run.report.same(k.forward_paths, &f(Path::Portable), &wanted, size, text);
 }
 
 /// Rows with other samples between the block's and behind it: those stay.
-fn inverse(run: &mut Run, quants: &[Quant], depth: Depth) {
-    let kind = run.report.kind(format!("dct: inverse and store, {depth:?}"));
-    let paths = run.report.kind(format!("dct: the Rust's two paths agree, inverse, {depth:?}"));
+fn inverse(run: &mut Run, quants: &[Quant], k: &Kinds) {
+    let (kind, paths) = (k.inverse, k.inverse_paths);
     let nat = planes::coefficients(&mut run.rng);
     let preset = run.rng.below(PRESETS);
     let level = run.rng.pick(&LEVELS);
@@ -48,7 +69,7 @@ fn inverse(run: &mut Run, quants: &[Quant], depth: Depth) {
     let size = weight(nat.iter());
     let text = || format!("preset {preset} level {level} stride {stride} {nat:?}");
     let n = 7 * stride + 8 + run.rng.below(5);
-    match depth {
+    match k.depth {
         Depth::Eight => {
             let before = run.rng.bytes(n);
             let rust = |p| {

@@ -4,21 +4,41 @@ use super::{lane, row, Rng, EXTREMES};
 
 /// Eight rows of lanes for the forward transform: any, or samples of a depth.
 pub fn rows(rng: &mut Rng, max: u16) -> [[i16; 8]; 8] {
-    match rng.below(6) {
+    match rng.below(10) {
         0 => core::array::from_fn(|_| row(rng)),
-        1 => {
+        // Rows of one number, or columns of one number: the sums of a pass reach their extremes.
+        1 => core::array::from_fn(|_| [lane(rng); 8]),
+        2 => {
+            let r = row(rng);
+            let signs = rng.next();
+            core::array::from_fn(|y| r.map(|x| if (signs >> y) & 1 == 0 { x } else { x.wrapping_neg() }))
+        }
+        3 => {
             let limit = 1 << rng.between(1, 15);
             core::array::from_fn(|_| core::array::from_fn(|_| (rng.below(2 * limit) as i32 - limit as i32) as i16))
         }
-        2 => {
-            let (a, b) = (lane(rng), lane(rng));
-            let (u, v) = (rng.below(8), rng.below(8));
+        // A basis function of any height: one coefficient is large, and a pass saturates at its place.
+        4 | 5 => {
+            let (a, b) = (height(rng), height(rng));
+            let b = if rng.once_in(2) { a.wrapping_neg() } else { b };
+            let (u, v) = if rng.once_in(2) { (0, rng.below(8)) } else { (rng.below(8), rng.below(8)) };
             core::array::from_fn(|y| core::array::from_fn(|x| if basis(u, v, x, y) { a } else { b }))
         }
         _ => {
             let p = plane(rng, 8, max);
             core::array::from_fn(|y| core::array::from_fn(|x| p[8 * y + x] as i16))
         }
+    }
+}
+
+/// A number of any size: all bit lengths equally often.
+fn height(rng: &mut Rng) -> i16 {
+    let bits = rng.between(1, 15);
+    let v = rng.below(1 << bits) as i16;
+    if rng.once_in(2) {
+        v
+    } else {
+        !v
     }
 }
 
