@@ -31,7 +31,7 @@ fn reaches(n: usize, stride: usize, slice: usize) -> bool
 }
 
 // The first "no" among the questions, 0 where there is none; the pictures have so many samples.
-fn shown_number(new: usize, held: usize, stride: usize, slice: usize) -> u32
+pub fn shown_number(new: usize, held: usize, stride: usize, slice: usize) -> u32
     ensures { λ r. ⌜ r ≡ firstNo (shownQuestions stride slice new held) ⌝ }
 {
     if stride_ok(stride) {

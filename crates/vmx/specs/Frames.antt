@@ -1,0 +1,31 @@
+-- The builder's state and the place of shown rows, as numbers. Document 01, 'Frame'.
+use mathlib.Core.Bool.{Bool, true, false}
+use mathlib.Core.List.{List, [], _∷_}
+use Prim.Native.Nat.{ℕ, _*_}
+use lib.ListN.{take, drop}
+use Rattle.ask.specs.Ask.{Answer, refused, accepted, asked}
+use Rattle.builder.specs.Build.{Build}
+use Rattle.shown.specs.Shown.{shownQuestions, sliceSamples, wasAccepted, picked}
+use Rattle.vmx.specs.Outs.{isOn}
+
+-- the builder's state out of the numbers that the caller holds
+abbrev pub stateOf : ℕ → ℕ → ℕ → ℕ → ℕ → ℕ → Build
+stateOf slices maxDcLen maxAcLen acTurn next at =
+    record { slices = slices; maxDcLen = maxDcLen; maxAcLen = maxAcLen; acTurn = isOn acTurn; next = next; at = at }
+
+-- in which of the two pictures the slice's rows lie, and where
+pub record ShownAt : Type 0 where
+  pub fromNew : Bool
+  pub offset : ℕ
+  pub size : ℕ
+
+-- "the slice's 16 rows out of the new one if accepted, out of the held one if not", for pictures of these lengths
+unfoldable pub shownAt : ℕ → ℕ → ℕ → ℕ → ℕ → Answer ShownAt
+shownAt stride slice verdict new held =
+    asked (shownQuestions stride slice new held)
+    (accepted (record { fromNew = wasAccepted verdict; offset = slice * sliceSamples stride; size = sliceSamples stride }))
+
+-- the part of one of the two pictures that an answer names; "an empty part" on refusal
+abbrev pub partOf : Answer ShownAt → List ℕ → List ℕ → List ℕ
+partOf (refused n) new held = []
+partOf (accepted s) new held = take (s .size) (drop (s .offset) (picked (s .fromNew) new held))

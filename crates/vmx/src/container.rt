@@ -1,0 +1,256 @@
+// The calls about frames: geometry, reading, a slice's streams as positions, building, what is shown.
+//
+// A call answers document 01's number, 0 where it is accepted, and leaves the rest of its answer in the places that its
+// caller lends for it. A refused call leaves them as they were; a refused part has offset 0 and length 0.
+use builder::Builder;
+use builder::HeaderAnswer;
+use builder::Shift;
+use builder::StreamAnswer;
+use layout::FrameAnswer;
+use layout::Kind;
+use layout::Layout;
+use layout::LayoutAnswer;
+use layout::ViewAnswer;
+ghost use mathlib.Core.Path.{_≡_};
+ghost use Rattle.ask.specs.Ask.{numberIn};
+ghost use Rattle.layout.specs.Geometry.{Geometry, layoutOf, interlaceCapable, previewWidth, previewHeight};
+ghost use Rattle.layout.specs.Frame.{FrameRead, parseOf, View, viewOf};
+ghost use Rattle.layout.specs.Views.{isAc};
+ghost use Rattle.builder.specs.Build.{Built, headerOf, streamOf};
+ghost use Rattle.shown.specs.Shown.{timeOf};
+ghost use Rattle.vmx.specs.Outs.{left, isOn, flagOf};
+ghost use Rattle.vmx.specs.Frames.{stateOf, ShownAt, shownAt};
+
+fn flag(b: bool) -> u32
+    ensures { λ r. ⌜ r ≡ flagOf b ⌝ }
+{
+    if b { 1 } else { 0 }
+}
+
+fn kind_of(ac: u32) -> Kind
+    ensures { λ r. ⌜ isAc r ≡ isOn ac ⌝ }
+{
+    if 0 < ac { Kind::Ac } else { Kind::Dc }
+}
+
+// The geometry of a frame size: strides in samples, stream limits in bytes.
+#[no_mangle]
+pub extern "C" fn vmx_layout(
+    width: usize,
+    height: usize,
+    aligned_height: &mut usize,
+    slices: &mut usize,
+    luma: &mut usize,
+    chroma: &mut usize,
+    max_dc_len: &mut usize,
+    max_ac_len: &mut usize,
+) -> u32
+    ensures { λ r. ⌜ (r ≡ numberIn (layoutOf width height)) × (now («aligned_height» .exit) ≡ left (layoutOf width height) (now («aligned_height» .entry)) (λ (g : Geometry). g .alignedHeight)) × (now (slices .exit) ≡ left (layoutOf width height) (now (slices .entry)) (λ (g : Geometry). g .slices)) × (now (luma .exit) ≡ left (layoutOf width height) (now (luma .entry)) (λ (g : Geometry). g .luma)) × (now (chroma .exit) ≡ left (layoutOf width height) (now (chroma .entry)) (λ (g : Geometry). g .chroma)) × (now («max_dc_len» .exit) ≡ left (layoutOf width height) (now («max_dc_len» .entry)) (λ (g : Geometry). g .maxDcLen)) × (now («max_ac_len» .exit) ≡ left (layoutOf width height) (now («max_ac_len» .entry)) (λ (g : Geometry). g .maxAcLen)) ⌝ }
+{
+    match Layout::new(width, height) {
+        LayoutAnswer::Refused(x) => x,
+        LayoutAnswer::Fits(l) => {
+            *aligned_height = l.aligned_height;
+            *slices = l.slices;
+            *luma = l.luma;
+            *chroma = l.chroma;
+            *max_dc_len = l.max_dc_len;
+            *max_ac_len = l.max_ac_len;
+            0
+        }
+    }
+}
+
+// Whether a frame of this height is interlaced when it says so: 1 or 0.
+#[no_mangle]
+pub extern "C" fn vmx_interlace_capable(height: usize) -> u32
+    ensures { λ r. ⌜ r ≡ flagOf (interlaceCapable height) ⌝ }
+{
+    flag(layout::interlace_capable(height))
+}
+
+// The width of the 1/8 preview.
+#[no_mangle]
+pub extern "C" fn vmx_preview_width(width: usize) -> usize
+    ensures { λ r. ⌜ r ≡ previewWidth width ⌝ }
+{
+    layout::preview_width(width)
+}
+
+// The height of the 1/8 preview.
+#[no_mangle]
+pub extern "C" fn vmx_preview_height(height: usize, interlaced: u32) -> usize
+    ensures { λ r. ⌜ r ≡ previewHeight height (isOn interlaced) ⌝ }
+{
+    layout::preview_height(height, 0 < interlaced)
+}
+
+// What a frame's header says, after all questions about the frame.
+#[no_mangle]
+pub extern "C" fn vmx_parse(
+    width: usize,
+    height: usize,
+    frame: &[u8],
+    interlaced: &mut u32,
+    quality: &mut u32,
+    dc_shift: &mut u32,
+    header_len: &mut usize,
+    ac: &mut u32,
+) -> u32
+    ensures { λ r. ⌜ (r ≡ numberIn (parseOf width height (now (frame .entry)))) × (now (interlaced .exit) ≡ left (parseOf width height (now (frame .entry))) (now (interlaced .entry)) (λ (f : FrameRead). flagOf (f .interlaced))) × (now (quality .exit) ≡ left (parseOf width height (now (frame .entry))) (now (quality .entry)) (λ (f : FrameRead). f .quality)) × (now («dc_shift» .exit) ≡ left (parseOf width height (now (frame .entry))) (now («dc_shift» .entry)) (λ (f : FrameRead). f .dcShift)) × (now («header_len» .exit) ≡ left (parseOf width height (now (frame .entry))) (now («header_len» .entry)) (λ (f : FrameRead). f .headerLen)) × (now (ac .exit) ≡ left (parseOf width height (now (frame .entry))) (now (ac .entry)) (λ (f : FrameRead). flagOf (f .acThere))) ⌝ }
+{
+    match layout::parse(width, height, frame) {
+        FrameAnswer::Refused(x) => x,
+        FrameAnswer::Frame(h) => {
+            *interlaced = flag(h.interlaced);
+            *quality = h.quality as u32;
+            *dc_shift = h.dc_shift as u32;
+            *header_len = h.header_len;
+            *ac = flag(h.ac);
+            0
+        }
+    }
+}
+
+// Where the DC stream (ac 0) or the AC stream (any other) of a slice lies in the frame, and its length.
+#[no_mangle]
+pub extern "C" fn vmx_stream(
+    width: usize,
+    height: usize,
+    frame: &[u8],
+    ac: u32,
+    slice: usize,
+    offset: &mut usize,
+    len: &mut usize,
+) -> u32
+    ensures { λ r. ⌜ (r ≡ numberIn (viewOf width height (now (frame .entry)) (isOn ac) slice)) × (now (offset .exit) ≡ left (viewOf width height (now (frame .entry)) (isOn ac) slice) 0 (λ (v : View). v .offset)) × (now (len .exit) ≡ left (viewOf width height (now (frame .entry)) (isOn ac) slice) 0 (λ (v : View). v .size)) ⌝ }
+{
+    match layout::view_at(width, height, frame, kind_of(ac), slice) {
+        ViewAnswer::Refused(x) => {
+            *offset = 0;
+            *len = 0;
+            x
+        }
+        ViewAnswer::Part(p, n) => {
+            *offset = p;
+            *len = n;
+            0
+        }
+    }
+}
+
+// Writes a frame's header at `at`, and hands out the state in which the first DC stream has its turn.
+#[no_mangle]
+pub extern "C" fn vmx_frame_start(
+    width: usize,
+    height: usize,
+    interlaced: u32,
+    quality: u8,
+    dc_shift: u32,
+    out: &mut [u8],
+    slices: &mut usize,
+    max_dc_len: &mut usize,
+    max_ac_len: &mut usize,
+    ac_turn: &mut u32,
+    next: &mut usize,
+    at: &mut usize,
+) -> u32
+    ensures { λ r. ⌜ (r ≡ numberIn (headerOf width height (isOn interlaced) quality «dc_shift» (now (out .entry)) (now (at .entry)))) × (now (out .exit) ≡ left (headerOf width height (isOn interlaced) quality «dc_shift» (now (out .entry)) (now (at .entry))) (now (out .entry)) (λ (b : Built). b .bytes)) × (now (slices .exit) ≡ left (headerOf width height (isOn interlaced) quality «dc_shift» (now (out .entry)) (now (at .entry))) (now (slices .entry)) (λ (b : Built). b .state .slices)) × (now («max_dc_len» .exit) ≡ left (headerOf width height (isOn interlaced) quality «dc_shift» (now (out .entry)) (now (at .entry))) (now («max_dc_len» .entry)) (λ (b : Built). b .state .maxDcLen)) × (now («max_ac_len» .exit) ≡ left (headerOf width height (isOn interlaced) quality «dc_shift» (now (out .entry)) (now (at .entry))) (now («max_ac_len» .entry)) (λ (b : Built). b .state .maxAcLen)) × (now («ac_turn» .exit) ≡ left (headerOf width height (isOn interlaced) quality «dc_shift» (now (out .entry)) (now (at .entry))) (now («ac_turn» .entry)) (λ (b : Built). flagOf (b .state .acTurn))) × (now (next .exit) ≡ left (headerOf width height (isOn interlaced) quality «dc_shift» (now (out .entry)) (now (at .entry))) (now (next .entry)) (λ (b : Built). b .state .next)) × (now (at .exit) ≡ left (headerOf width height (isOn interlaced) quality «dc_shift» (now (out .entry)) (now (at .entry))) (now (at .entry)) (λ (b : Built). b .state .at)) ⌝ }
+{
+    let start = *at;
+    match builder::start_frame(
+        width,
+        height,
+        0 < interlaced,
+        quality,
+        Shift::Named(dc_shift),
+        out,
+        start,
+    ) {
+        HeaderAnswer::Refused(x) => x,
+        HeaderAnswer::Started(b) => {
+            *slices = b.slices;
+            *max_dc_len = b.max_dc_len;
+            *max_ac_len = b.max_ac_len;
+            *ac_turn = flag(b.ac_turn);
+            *next = b.next;
+            *at = b.at;
+            0
+        }
+    }
+}
+
+// Puts the DC stream (ac 0) or the AC stream (any other) of a slice behind what was written.
+#[no_mangle]
+pub extern "C" fn vmx_frame_put(
+    slices: usize,
+    max_dc_len: usize,
+    max_ac_len: usize,
+    ac: u32,
+    slice: usize,
+    stream: &[u8],
+    out: &mut [u8],
+    ac_turn: &mut u32,
+    next: &mut usize,
+    at: &mut usize,
+) -> u32
+    ensures { λ r. ⌜ (r ≡ numberIn (streamOf (stateOf slices «max_dc_len» «max_ac_len» (now («ac_turn» .entry)) (now (next .entry)) (now (at .entry))) (isOn ac) slice (now (stream .entry)) (now (out .entry)))) × (now (out .exit) ≡ left (streamOf (stateOf slices «max_dc_len» «max_ac_len» (now («ac_turn» .entry)) (now (next .entry)) (now (at .entry))) (isOn ac) slice (now (stream .entry)) (now (out .entry))) (now (out .entry)) (λ (b : Built). b .bytes)) × (now («ac_turn» .exit) ≡ left (streamOf (stateOf slices «max_dc_len» «max_ac_len» (now («ac_turn» .entry)) (now (next .entry)) (now (at .entry))) (isOn ac) slice (now (stream .entry)) (now (out .entry))) (now («ac_turn» .entry)) (λ (b : Built). flagOf (b .state .acTurn))) × (now (next .exit) ≡ left (streamOf (stateOf slices «max_dc_len» «max_ac_len» (now («ac_turn» .entry)) (now (next .entry)) (now (at .entry))) (isOn ac) slice (now (stream .entry)) (now (out .entry))) (now (next .entry)) (λ (b : Built). b .state .next)) × (now (at .exit) ≡ left (streamOf (stateOf slices «max_dc_len» «max_ac_len» (now («ac_turn» .entry)) (now (next .entry)) (now (at .entry))) (isOn ac) slice (now (stream .entry)) (now (out .entry))) (now (at .entry)) (λ (b : Built). b .state .at)) ⌝ }
+{
+    let kind = kind_of(ac);
+    let turn = 0 < *ac_turn;
+    let first = *next;
+    let start = *at;
+    let b = Builder {
+        slices,
+        max_dc_len,
+        max_ac_len,
+        ac_turn: turn,
+        next: first,
+        at: start,
+    };
+    match builder::put_stream(b, kind, slice, stream, out) {
+        StreamAnswer::Refused(x, _) => x,
+        StreamAnswer::Next(s) => {
+            *ac_turn = flag(s.ac_turn);
+            *next = s.next;
+            *at = s.at;
+            0
+        }
+    }
+}
+
+// In which of two pictures of so many samples the slice's sixteen rows lie (1 the new one, 0 the held one), and where.
+#[no_mangle]
+pub extern "C" fn vmx_shown_rows(
+    new: usize,
+    held: usize,
+    stride: usize,
+    slice: usize,
+    verdict: u32,
+    from_new: &mut u32,
+    offset: &mut usize,
+    len: &mut usize,
+) -> u32
+    ensures { λ r. ⌜ (r ≡ numberIn (shownAt stride slice verdict new held)) × (now («from_new» .exit) ≡ left (shownAt stride slice verdict new held) 0 (λ (s : ShownAt). flagOf (s .fromNew))) × (now (offset .exit) ≡ left (shownAt stride slice verdict new held) 0 (λ (s : ShownAt). s .offset)) × (now (len .exit) ≡ left (shownAt stride slice verdict new held) 0 (λ (s : ShownAt). s .size)) ⌝ }
+{
+    let x = shown::shown_number(new, held, stride, slice);
+    if 0 < x {
+        *from_new = 0;
+        *offset = 0;
+        *len = 0;
+        return x;
+    }
+    let n = 16 * stride;
+    *from_new = flag(verdict == 0);
+    *offset = slice * n;
+    *len = n;
+    0
+}
+
+// The time that is shown: the new one if the slice was accepted, the held one if not.
+#[no_mangle]
+pub extern "C" fn vmx_shown_time(new: u64, held: u64, verdict: u32) -> u64
+    ensures { λ r. ⌜ r ≡ timeOf verdict new held ⌝ }
+{
+    shown::shown_time(new, held, verdict)
+}

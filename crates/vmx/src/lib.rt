@@ -1,0 +1,2 @@
+// VMX planes, slice streams and frames: the calls for programs in C, C++ and Rust (include/vmx.h).
+pub mod container;
