@@ -1,0 +1,97 @@
+/* VMX frames: geometry, reading, building, what is shown.
+ *
+ * Link with libvmx.a (rt staticlib vmx). Every call is proved to give the answer that docs/PROMISES.md names, on every
+ * argument; no call allocates, keeps a pointer or has state of its own.
+ *
+ * A call that returns uint32_t under "number" returns 0 where it is accepted, else the number of the first question of
+ * the list below that is answered no. A refused call leaves all memory that it was lent as it was, except that a part
+ * (offset, length) is 0, 0.
+ *
+ * What the caller owes, as in any C library: a buffer (pointer, count) has so many elements (a count of 0 may come
+ * with any pointer that is not null), each place for an answer can be read and written, and no place for an answer lies
+ * in a buffer or is lent twice in one call. The buffer `out` of a builder call does not overlap the stream that is put.
+ */
+#ifndef VMX_H
+#define VMX_H
+
+#include <stddef.h>
+#include <stdint.h>
+
+#ifdef __cplusplus
+extern "C" {
+#endif
+
+/* The numbers: the question that was answered no. */
+#define VMX_OK 0            /* none: accepted */
+#define VMX_NO_PRESET 1     /* preset 0 to 24? */
+#define VMX_NO_SHIFT 2      /* DC shift 0 to 15? */
+#define VMX_NO_PLANE 3      /* plane place 0 to 3, plane count 1 to 4? */
+#define VMX_NO_STRIDE 4     /* stride a multiple of 8 from 8 to 7,680? */
+#define VMX_NO_ROWS 5       /* rows long enough? (shown rows: up to the slice's end in both pictures) */
+#define VMX_NO_ROOM 6       /* room behind the start for what is written? */
+#define VMX_NO_START 7      /* starts at most 16,777,215, streams read within 245,760 (DC) and 430,080 (AC) bytes? */
+#define VMX_NO_CODE 8       /* at most 54 zeros in front of every code reached? */
+#define VMX_NO_SIZE 9       /* width even, 16 to 7,680, height 16 to 4,320? */
+#define VMX_NO_BYTES 10     /* five bytes there, each length and stream whole? */
+#define VMX_NO_FORMAT 11    /* first byte 1, 2 or 3? */
+#define VMX_NO_COUNT 12     /* slice count as the layout's, modulo 256? */
+#define VMX_NO_LIMIT 13     /* stream within its limit? */
+#define VMX_NO_TURN 14      /* slice number below the count (shown rows: below 270), AC there when wanted, builder in turn? */
+
+/* The geometry of a frame size: height rounded up to whole slices of 16 rows, number of slices, strides in samples of
+ * planes 0 and 3 (luma) and 1 and 2 (chroma), longest DC and AC stream of a slice in bytes.
+ * Number: 9. */
+uint32_t vmx_layout(size_t width, size_t height, size_t *aligned_height, size_t *slices, size_t *luma, size_t *chroma,
+                    size_t *max_dc_len, size_t *max_ac_len);
+
+/* 1 if a frame of this height is interlaced when its header says so (480, 576, 1080), else 0. */
+uint32_t vmx_interlace_capable(size_t height);
+
+/* The size of the 1/8 preview; interlaced is 0 or any other number. */
+size_t vmx_preview_width(size_t width);
+size_t vmx_preview_height(size_t height, uint32_t interlaced);
+
+/* Puts all questions about a frame and says what its header holds: interlaced 1 or 0, quality and DC shift as stored,
+ * the header's length in bytes, ac 1 if AC streams follow the DC streams, else 0. Bytes behind the last stream are
+ * ignored.
+ * Number: 9, 10, 11, 2, 12, then stream by stream 10, 13, 10. */
+uint32_t vmx_parse(size_t width, size_t height, const uint8_t *frame, size_t frame_len, uint32_t *interlaced,
+                   uint32_t *quality, uint32_t *dc_shift, size_t *header_len, uint32_t *ac);
+
+/* Where the DC stream (ac 0) or the AC stream (ac any other number) of a slice lies in the frame: frame[offset] is its
+ * first byte. On refusal *offset and *len are 0.
+ * Number: those of vmx_parse, then 14. */
+uint32_t vmx_stream(size_t width, size_t height, const uint8_t *frame, size_t frame_len, uint32_t ac, size_t slice,
+                    size_t *offset, size_t *len);
+
+/* Writes a frame's header into out from *at on, sets *at behind it, and sets the state in which the DC stream of slice 0
+ * has its turn. interlaced is 0 or any other number; a DC shift of 0 gives the short header (3 bytes, else 5). The state
+ * is six numbers that the caller holds: slices, max_dc_len, max_ac_len (never changed afterwards), ac_turn, next, at.
+ * Number: 2, 6, 9. Refused: out and the six numbers stay as they were. */
+uint32_t vmx_frame_start(size_t width, size_t height, uint32_t interlaced, uint8_t quality, uint32_t dc_shift,
+                         uint8_t *out, size_t out_len, size_t *slices, size_t *max_dc_len, size_t *max_ac_len,
+                         uint32_t *ac_turn, size_t *next, size_t *at);
+
+/* Puts the DC stream (ac 0) or the AC stream (ac any other number) of a slice, after its length, into out from *at on,
+ * and sets the state for the next one. The DC streams of all slices have their turn in order, then the AC streams of
+ * all slices. The frame is out[start .. *at]; it is complete after the last DC stream or after the last AC stream.
+ * Number: 6, 13, 14. Refused: out and the state stay as they were. */
+uint32_t vmx_frame_put(size_t slices, size_t max_dc_len, size_t max_ac_len, uint32_t ac, size_t slice,
+                       const uint8_t *stream, size_t stream_len, uint8_t *out, size_t out_len, uint32_t *ac_turn,
+                       size_t *next, size_t *at);
+
+/* Of two pictures with so many samples each, in which one a viewer finds the slice's sixteen rows (*from_new 1: the new
+ * one, 0: the held one), where they begin and how many samples they are. verdict is the number that the slice's reading
+ * call returned: 0 shows the new picture. On refusal *from_new, *offset and *len are 0.
+ * Number: 4, 5, 14. */
+uint32_t vmx_shown_rows(size_t new_len, size_t held_len, size_t stride, size_t slice, uint32_t verdict,
+                        uint32_t *from_new, size_t *offset, size_t *len);
+
+/* The time that is shown: new_time if verdict is 0, else held_time. */
+uint64_t vmx_shown_time(uint64_t new_time, uint64_t held_time, uint32_t verdict);
+
+#ifdef __cplusplus
+}
+#endif
+
+#endif
