@@ -94,14 +94,14 @@ unfolding streams
 stop left limit f p n e = rw e
 
 -- ---- rows of a field
-module _ (h r half : ℕ) (e : half ≡ alignedHeight h) where
-  pub upper : r < half / 2 → (b : Bool) → ltb r (h / 2) ≡ b → imageRowOf h r true ≡ rowIf b (2 * r + 0)
+module _ (h r half : ℕ) (e : half ≡ alignedHeight h / 2) where
+  pub upper : r < half → (b : Bool) → ltb r (h / 2) ≡ b → imageRowOf h r true ≡ rowIf b (2 * r + 0)
   unfolding imageRowOf
   upper k b t = rw (lt-ltb r (alignedHeight h / 2) (rw e at k), t)
 
-  pub lower : half / 2 ≤ r → (b : Bool) → ltb (r - half / 2) (h / 2) ≡ b → imageRowOf h r true ≡ rowIf b (2 * (r - half / 2) + 1)
+  pub lower : half ≤ r → (b : Bool) → ltb (r - half) (h / 2) ≡ b → imageRowOf h r true ≡ rowIf b (2 * (r - half) + 1)
   unfolding imageRowOf
-  lower k b t = rw (← e, le-ltb r (half / 2) k, t)
+  lower k b t = rw (← e, le-ltb r half k, t)
 
 -- ---- the header
 pub format-small : (f : List ℕ) → formatAt f ≤ 2

@@ -68,7 +68,7 @@ pub record Legal (w h : ℕ) (f : List ℕ) : Type 0 where
   pub high : h ≤ 4320
   pub five : 5 ≤ length f
 
--- what is read of a frame. `dcEnd` is the place behind the DC streams: what lies there decides whether there is AC
+-- what is read of a frame: interlaced, quality, DC shift, header length, and whether AC streams follow
 pub record FrameRead : Type 0 where
   pub interlaced : Bool
   pub quality : ℕ

@@ -5,7 +5,7 @@
 // format byte of 3 is followed by the DC shift and a second format byte.
 ghost use mathlib.Core.Path.{_≡_};
 ghost use mathlib.Core.Bool.{true, false};
-ghost use Prim.Native.Nat.{_+_, _≤_, _<_};
+ghost use Prim.Native.Nat.{_+_, _/_, _≤_, _<_};
 ghost use lib.ListN.{length};
 ghost use Rattle.ask.specs.Ask.{firstNo, numberIn};
 ghost use Rattle.layout.specs.Geometry.{alignUp, sizeOk, lumaStride, chromaStride, alignedHeight, sliceCount, maxDcLen, maxAcLen, interlaceCapable, layoutOf, imageRowOf, previewWidth, previewHeight};
@@ -136,13 +136,23 @@ pub enum RowAnswer {
     Padding,
 }
 
+// Half of the aligned height, for any height.
+fn half_height(height: usize) -> usize
+    ensures { λ r. ⌜ r ≡ alignedHeight height / 2 ⌝ }
+{
+    if height % 16 == 0 {
+        height / 16 * 8
+    } else {
+        (height / 16 + 1) * 8
+    }
+}
+
 // The image row that lies in row r of the coded planes.
 pub fn image_row(height: usize, r: usize, interlaced: bool) -> RowAnswer
-    requires { ⌜ height ≤ 4320 ⌝ }
     ensures { λ a. ⌜ rowSays a ≡ imageRowOf height r interlaced ⌝ }
 {
     if interlaced {
-        let half = aligned_height(height) / 2;
+        let half = half_height(height);
         let fields = height / 2;
         if r < half {
             if r < fields {

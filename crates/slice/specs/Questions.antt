@@ -126,18 +126,18 @@ readingQuestions c lengths at =
 
 -- a preview of one plane: shift, place, stride, the two outputs, and the DC stream's length and start
 unfoldable pub previewQuestions : ℕ → ℕ → ℕ → List ℕ → List ℕ → ℕ → ℕ → List Question
-previewQuestions shift place stride upper lower length at =
+previewQuestions shift place stride upper lower bytes at =
     shiftQuestion shift
     ∷ ask (placeOk place) 3
     ∷ ask (strideOk stride) 4
     ∷ previewQuestion stride upper lower
-    ∷ ask (startOk at && dcLengthOk length) 7
+    ∷ ask (startOk at && dcLengthOk bytes) 7
     ∷ []
 
 -- a block report: stride, the output, and the AC stream's length and start
 unfoldable pub reportQuestions : ℕ → List ℕ → ℕ → ℕ → List Question
-reportQuestions stride report length at =
-    ask (strideOk stride) 4 ∷ reportQuestion stride report ∷ ask (startOk at && acLengthOk length) 7 ∷ []
+reportQuestions stride report bytes at =
+    ask (strideOk stride) 4 ∷ reportQuestion stride report ∷ ask (startOk at && acLengthOk bytes) 7 ∷ []
 
 -- the size call, for one plane and for a slice
 unfoldable pub planeSizeQuestions : ℕ → List Question
