@@ -1,0 +1,38 @@
+-- Where reading a block's places ends. Document 01, 'Plane and slice'.
+use mathlib.Core.Path.{_≡_}
+use mathlib.Core.List.{List}
+use Prim.Native.Nat.{ℕ, zero, suc, _+_, _^_, _≤_, _<_}
+use Rattle.bits.specs.Bits.{bitAt}
+use Rattle.bitreader.specs.Cursor.{At}
+use Rattle.bitreader.specs.declared.AcCursor.{AcCursor}
+use Rattle.slice.specs.ReadPlane.{Places, badPlaces, places, readPlaces}
+use Rattle.acread.specs.declared.BlockEnd.{BlockEnd}
+use Rattle.acread.specs.declared.BlockEnd.the-variants as end
+
+-- the places of a symbol, by its head bit and its number
+abbrev pub spanOf : ℕ → ℕ → ℕ
+spanOf zero n = 1
+spanOf (suc h) n = n
+
+-- the end of the places read, without their coefficients
+pub data Ends : Type 0 where
+  badEnds : Ends
+  ends : ℕ → ℕ → Ends
+
+abbrev pub endsOf : Places → Ends
+endsOf badPlaces = badEnds
+endsOf (places cs q r) = ends q r
+
+abbrev pub endSays : BlockEnd → Ends
+endSays (end.At c n) = ends (c .pos) n
+endSays end.Bad = badEnds
+
+-- a cursor behind the block at p: at most 64 codes of 112 bits were read
+pub record Ready (s : List ℕ) (p : ℕ) (c : AcCursor) (n : ℕ) : Type 0 where
+  pub holds : At s c
+  pub near : c .pos ≤ p + 7168
+  pub few : n < 2 ^ 57
+
+pub record BlockEnded (s : List ℕ) (p r : ℕ) (e : BlockEnd) : Type 0 where
+  pub answer : endSays e ≡ endsOf (readPlaces 64 (bitAt s) p r)
+  pub ready : (c : AcCursor) (n : ℕ) → e ≡ end.At c n → Ready s p c n

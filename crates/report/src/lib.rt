@@ -1,0 +1,128 @@
+// The block report: which blocks of a plane no AC symbol is read for, from the plane's AC stream alone.
+// The stream is read through before a byte is stored.
+ghost use mathlib.Core.Path.{_≡_};
+ghost use mathlib.Core.Bool.{true};
+ghost use mathlib.Core.List.{List};
+ghost use Prim.Native.Nat.{ℕ, _*_, _/_, _≤_};
+ghost use lib.ListN.{length};
+ghost use Rattle.ask.specs.Ask.{firstNo};
+ghost use Rattle.bits.specs.Bits.{bitAt};
+ghost use Rattle.bits.specs.Lay.{lay};
+ghost use Rattle.slice.specs.ReadPlane.{readBlocks};
+ghost use Rattle.slice.specs.Questions.{strideOk, reportQuestions};
+ghost use Rattle.slice.specs.Previews.{blockReport};
+ghost use Rattle.report.specs.Report.{flatByte, blockEnds, goodEnds, reportsOf, acEnd, endSays, reportSays};
+use acread::BlockEnd;
+
+// Where a plane ends: the byte behind its stream, or the number of a refusal.
+pub enum PlaneEnd {
+    At(usize),
+    Refused(u32),
+}
+
+// Reads a plane's AC stream through: two rows of blocks, left at the first bad code.
+pub fn through_ac(ac: &[u8], at: usize, columns: usize) -> PlaneEnd
+    requires { ⌜ (at ≤ 16777215) × (columns ≤ 960) ⌝ }
+    ensures { λ r. ⌜ endSays r ≡ acEnd (readBlocks (2 * columns) (bitAt (now (ac .entry))) (8 * at) 0) ⌝ }
+{
+    let mut c = bitreader::cursor(ac, 8 * at);
+    let mut pending: u64 = 0;
+    let mut number: u32 = 0;
+    'rows: for j in 0usize..2 {
+        for k in 0..columns {
+            match acread::skip_block(ac, c, pending) {
+                BlockEnd::At(d, n) => {
+                    c = d;
+                    pending = n;
+                }
+                BlockEnd::Bad => {
+                    number = 8;
+                    break 'rows;
+                }
+            }
+        }
+    }
+    if number != 0 {
+        PlaneEnd::Refused(number)
+    } else {
+        PlaneEnd::At(bitreader::end_byte(c))
+    }
+}
+
+// 1 for a block that the zeros still to come fill, else 0.
+fn flat(pending: u64) -> u8
+    ensures { λ r. ⌜ r ≡ flatByte pending ⌝ }
+{
+    if pending < 64 { 0 } else { 1 }
+}
+
+// Stores one byte a block, for n blocks of a stream that was read through.
+fn store_report(ac: &[u8], at: usize, n: usize, report: &mut [u8])
+    requires { ⌜ (at ≤ 16777215) × (n ≤ 1920) × (n ≤ length (now report)) × (goodEnds (blockEnds (readBlocks n (bitAt (now ac)) (8 * at) 0)) ≡ true) ⌝ }
+    ensures { λ _. ⌜ now (report .exit) ≡ lay (now (report .entry)) 0 (reportsOf (readBlocks n (bitAt (now (ac .entry))) (8 * at) 0)) ⌝ }
+{
+    let mut c = bitreader::cursor(ac, 8 * at);
+    let mut pending: u64 = 0;
+    let mut i = 0;
+    while i < n {
+        report[i] = flat(pending);
+        match acread::skip_block(ac, c, pending) {
+            BlockEnd::At(d, m) => {
+                c = d;
+                pending = m;
+            }
+            BlockEnd::Bad => return,
+        }
+        i += 1;
+    }
+}
+
+// Question 4: a multiple of 8 from 8 to 7,680.
+fn stride_ok(stride: usize) -> bool
+    ensures { λ r. ⌜ r ≡ strideOk stride ⌝ }
+{
+    if stride % 8 != 0 {
+        return false;
+    }
+    if stride < 8 {
+        return false;
+    }
+    stride <= 7680
+}
+
+// The first "no" among the questions, 0 where there is none; the report has room for so many bytes, the stream so many.
+fn report_number(stride: usize, room: usize, bytes: usize, at: usize) -> u32
+    ensures { λ r. ⌜ ((report : List ℕ) → length report ≡ room → r ≡ firstNo (reportQuestions stride report bytes at)) ⌝ }
+{
+    if stride_ok(stride) {
+        if room < stride / 4 {
+            return 5;
+        }
+        if 16777215 < at {
+            return 7;
+        }
+        if 430080 < bytes {
+            return 7;
+        }
+        return 0;
+    }
+    4
+}
+
+// One byte a block in coding order: 1 where no AC symbol is read for it; and the byte where the plane's AC stream ends.
+pub fn block_report(stride: usize, report: &mut [u8], ac: &[u8], at: usize) -> PlaneEnd
+    ensures { λ r. ⌜ reportSays at r (now (report .exit)) ≡ blockReport stride (now (report .entry)) (now (ac .entry)) at ⌝ }
+{
+    let x = report_number(stride, report.len(), ac.len(), at);
+    if 0 < x {
+        return PlaneEnd::Refused(x);
+    }
+    let columns = stride / 8;
+    match through_ac(ac, at, columns) {
+        PlaneEnd::Refused(y) => PlaneEnd::Refused(y),
+        PlaneEnd::At(e) => {
+            store_report(ac, at, 2 * columns, report);
+            PlaneEnd::At(e)
+        }
+    }
+}
