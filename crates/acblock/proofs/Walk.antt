@@ -198,8 +198,7 @@ pub whole : {z : List ℤ} {a₀ : BitAcc} {o₀ : List ℕ} (w : ℕ) {a : BitA
 whole {z = []} w h g e = absurd (omega arith)
 whole {z = c ∷ z} {a₀} {o₀} w {a} {o} {run} {m} {at} h g e =
     let n = none (drop at (c ∷ z)) (sym (g .mask) ∙ e) run in
-    let all : g .done ≡ placesCodes (w + 1) z = sym (append-nil (g .done)) ∙ ap (λ (l : List Bool). g .done ++ l) (sym (n .0)) ∙ g .codes in
-    (
+    let all : g .done ≡ placesCodes (w + 1) z = sym (append-nil (g .done)) ∙ ap (λ (l : List Bool). g .done ++ l) (sym (n .0)) ∙ g .codes in (
       subst (λ (l : List Bool). Put a₀ o₀ l a o) (all ∙ ap (λ (k : ℕ). placesCodes k z) (add-one w) ∙ sym (first-codes w c z)) (g .wrote),
       omega (arith, n .1, length-drop at (c ∷ z)) ∙ g .waits ∙ ap (λ (k : ℕ). waitingAfter k z) (add-one w) ∙ sym (first-waits w c z),
     )
