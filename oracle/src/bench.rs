@@ -1,8 +1,12 @@
 //! Times beside the Rust's, in one run: the best of several rounds, since other
 //! work on the machine only ever adds.
 
+use crate::calls::{Buffers, PlaneCoder, Rust};
+use crate::gen::planes::Made;
 use crate::gen::Rng;
-use crate::ours;
+use crate::ours::{self, planes::Ours};
+use crate::questions::{self, Settings};
+use reference::api::PATHS;
 use reference::api::bits::{AcSymbol, Cursor, Writer};
 use std::hint::black_box;
 use std::process::ExitCode;
@@ -15,6 +19,8 @@ pub fn run() -> ExitCode {
     println!("| | ours | SSE2 | ratio | portable | ratio |");
     println!("|---|---|---|---|---|---|");
     symbols();
+    coding::<u8>("8-bit");
+    coding::<u16>("10-bit");
     ExitCode::SUCCESS
 }
 
@@ -81,4 +87,38 @@ fn symbols() {
         black_box(&room);
     });
     line("AC symbol read", ours, rust, None);
+}
+
+/// Blocks coded, of planes that are half noise, half smooth, at stride 1,920.
+fn coding<T: Made>(depth: &str) {
+    const STRIDE: usize = 1920;
+    let mut rng = Rng::new(11);
+    let lanes: Vec<u16> = (0..16 * STRIDE)
+        .map(|i| {
+            let (x, y) = (i % STRIDE, i / STRIDE);
+            let m = T::MAX as usize;
+            let v = (x * m / STRIDE + 3 * y) % (m + 1);
+            if x < STRIDE / 2 { v as u16 } else { ((v + rng.below(m / 4)) % (m + 1)) as u16 }
+        })
+        .collect();
+    let rows: Vec<T> = lanes.into_iter().map(|v| T::make(&mut rng, v)).collect();
+    let plane = (0, STRIDE, rows);
+    let (n, m) = questions::sizes(STRIDE);
+    let mut b = Buffers { dc: vec![0; n], dc_at: 0, ac: vec![0; m], ac_at: 0 };
+    for preset in [0, 8, 24] {
+        let settings = Settings { preset, dc_shift: 0 };
+        let mut time = |f: &dyn Fn(&mut Buffers)| {
+            best(STRIDE / 4, || {
+                (b.dc_at, b.ac_at) = (0, 0);
+                f(black_box(&mut b));
+            })
+        };
+        let ours = time(&|b| assert_eq!(Ours.code_plane(settings, &plane, b), 0));
+        // The Rust's own function: its streams go into vectors that grow.
+        let [sse2, portable] = PATHS.map(|path| {
+            let rust = Rust::new(path);
+            time(&|_| drop(black_box(rust.streams(settings, &plane))))
+        });
+        line(&format!("block coded, {depth}, preset {preset}"), ours, sse2, Some(portable));
+    }
 }

@@ -22,9 +22,13 @@ pub struct Buffers {
 pub type Plane<T> = (usize, usize, Vec<T>);
 
 /// Each call's answer is document 01's number, 0 where it is accepted.
-pub trait Calls {
+pub trait PlaneCoder {
     fn name(&self) -> &'static str;
     fn code_plane<T: Made>(&self, s: Settings, plane: &Plane<T>, b: &mut Buffers) -> u32;
+}
+
+/// The other calls on planes and slices.
+pub trait Calls: PlaneCoder {
     /// A slice of `planes.len()` planes; their places are their indices.
     fn code_slice<T: Made>(&self, s: Settings, planes: &[Plane<T>], b: &mut Buffers) -> u32;
     fn read_plane<T: Made>(&self, s: Settings, plane: &mut Plane<T>, b: &mut Buffers) -> u32;
@@ -89,7 +93,7 @@ pub fn reading_number<T>(s: Settings, planes: &[Plane<T>], b: &Buffers) -> u32 {
     questions::reading(s, &shapes(planes), (b.dc.len(), b.dc_at), (b.ac.len(), b.ac_at))
 }
 
-impl Calls for Rust {
+impl PlaneCoder for Rust {
     fn name(&self) -> &'static str {
         match self.path {
             Path::Sse2 => "the Rust on SSE2",
@@ -100,7 +104,9 @@ impl Calls for Rust {
     fn code_plane<T: Made>(&self, s: Settings, plane: &Plane<T>, b: &mut Buffers) -> u32 {
         self.code_slice(s, std::slice::from_ref(plane), b)
     }
+}
 
+impl Calls for Rust {
     fn code_slice<T: Made>(&self, s: Settings, planes: &[Plane<T>], b: &mut Buffers) -> u32 {
         let number = coding_number(s, planes, b);
         if number > 0 {

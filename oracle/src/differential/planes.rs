@@ -2,17 +2,19 @@
 //! other bytes and samples around what it may touch.
 
 use super::Run;
-use crate::calls::{coding_number, reading_number, Buffers, Calls, Plane, Rust};
+use crate::calls::{coding_number, reading_number, Buffers, Calls, Plane, PlaneCoder, Rust};
 use crate::gen::planes::{self, Made};
 use crate::gen::streams::{self, Reading};
 use crate::gen::Rng;
+use crate::ours::planes::Ours;
 use crate::questions::{self, Settings};
 use reference::api::Path;
 
 pub fn run(run: &mut Run) {
     let rust = Rust::new(Path::Sse2);
     let portable = Rust::new(Path::Portable);
-    far_starts::<u8>(run, &rust, &portable);
+    far_coding::<u8>(run, &rust, &Ours);
+    far_reading::<u8>(run, &rust, &portable);
     while run.more() {
         for _ in 0..10 {
             both::<u8>(run, &rust, &portable, "8-bit");
@@ -21,11 +23,15 @@ pub fn run(run: &mut Run) {
     }
 }
 
-fn both<T: Made>(run: &mut Run, rust: &Rust, other: &impl Calls, depth: &str) {
-    coded::<T>(run, rust, other, depth);
-    read::<T>(run, rust, other, depth);
-    coding_refused::<T>(run, rust, other);
-    reading_refused::<T>(run, rust, other);
+fn both<T: Made>(run: &mut Run, rust: &Rust, portable: &Rust, depth: &str) {
+    for _ in 0..3 {
+        coded::<T>(run, rust, &Ours, depth);
+        coding_refused::<T>(run, rust, &Ours);
+    }
+    coded::<T>(run, rust, portable, depth);
+    coding_refused::<T>(run, rust, portable);
+    read::<T>(run, rust, portable, depth);
+    reading_refused::<T>(run, rust, portable);
 }
 
 /// Bytes of a buffer: junk, then room for `need` bytes, then more junk.
@@ -47,7 +53,7 @@ fn text<T: std::fmt::Debug>(s: Settings, (place, stride, rows): &Plane<T>, b: &B
     )
 }
 
-fn coded<T: Made>(run: &mut Run, rust: &Rust, other: &impl Calls, depth: &str) {
+fn coded<T: Made>(run: &mut Run, rust: &Rust, other: &impl PlaneCoder, depth: &str) {
     let kind = run.report.kind(format!("planes: coded, {depth}, {}", other.name()));
     let sizes = run.report.kind(format!("planes: streams within the size call's lengths, {depth}"));
     let rng = &mut run.rng;
@@ -165,7 +171,7 @@ fn arguments<T: Made>(rng: &mut Rng, need: impl Fn(usize) -> (usize, usize)) -> 
 }
 
 /// Coding calls that are mostly refused: the number, and nothing changed.
-fn coding_refused<T: Made>(run: &mut Run, rust: &Rust, other: &impl Calls) {
+fn coding_refused<T: Made>(run: &mut Run, rust: &Rust, other: &impl PlaneCoder) {
     let (settings, plane, before): (_, Plane<T>, _) = arguments(&mut run.rng, questions::sizes);
     if coding_number(settings, std::slice::from_ref(&plane), &before) == 0 {
         return;
@@ -209,10 +215,9 @@ fn reading_refused<T: Made>(run: &mut Run, rust: &Rust, other: &impl Calls) {
     run.report.same(kind, &(found, y, c), &(wanted, x, b), size, || text(settings, &plane, &before));
 }
 
-/// Starts at and past 16,777,215 in buffers that have the room, and streams that
-/// are longer than may be read: question 7.
-fn far_starts<T: Made>(run: &mut Run, rust: &Rust, other: &impl Calls) {
-    let kind = run.report.kind(format!("planes: around question 7's limits, {}", other.name()));
+/// Coding from starts at and past 16,777,215 in buffers that have the room: question 7.
+fn far_coding<T: Made>(run: &mut Run, rust: &Rust, other: &impl PlaneCoder) {
+    let kind = run.report.kind(format!("planes: coding around question 7's limits, {}", other.name()));
     let settings = Settings { preset: 3, dc_shift: 1 };
     let plane = (0, 8, vec![T::default(); 128]);
     let (most_dc, most_ac) = questions::sizes(8);
@@ -221,8 +226,15 @@ fn far_starts<T: Made>(run: &mut Run, rust: &Rust, other: &impl Calls) {
         let (mut b, mut c) = (before.clone(), before);
         let wanted = rust.code_plane(settings, &plane, &mut b);
         let found = other.code_plane(settings, &plane, &mut c);
-        run.report.check(kind, found == wanted && b == c, 0, || format!("coding from {d} and {a}: {found}, wanted {wanted}"));
+        run.report.check(kind, found == wanted && b == c, 0, || format!("from {d} and {a}: {found}, wanted {wanted}"));
     }
+}
+
+/// Reading from such starts, and streams that are longer than may be read: question 7.
+fn far_reading<T: Made>(run: &mut Run, rust: &Rust, other: &impl Calls) {
+    let kind = run.report.kind(format!("planes: reading around question 7's limits, {}", other.name()));
+    let settings = Settings { preset: 3, dc_shift: 1 };
+    let plane = (0, 8, vec![T::default(); 128]);
     for (d, a, x, y) in [
         (245_760, 430_080, 0, 0),
         (245_761, 3, 0, 0),

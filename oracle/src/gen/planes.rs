@@ -134,11 +134,19 @@ fn fill(p: &mut [u16], stride: usize, f: impl Fn(usize, usize) -> u16) {
     }
 }
 
+/// The samples of a plane.
+pub enum Rows<'a> {
+    Eight(&'a [u8]),
+    Ten(&'a [u16]),
+}
+
 /// A sample type, and how a plane of it is made from lane values.
 pub trait Made: reference::api::slice::Sample + Copy {
     const MAX: u16;
     fn make(rng: &mut Rng, lane: u16) -> Self;
     fn any(rng: &mut Rng) -> Self;
+    /// The samples by their depth.
+    fn rows(rows: &[Self]) -> Rows<'_>;
 }
 
 impl Made for u8 {
@@ -148,6 +156,9 @@ impl Made for u8 {
     }
     fn any(rng: &mut Rng) -> u8 {
         rng.next() as u8
+    }
+    fn rows(rows: &[u8]) -> Rows<'_> {
+        Rows::Eight(rows)
     }
 }
 
@@ -159,6 +170,9 @@ impl Made for u16 {
     }
     fn any(rng: &mut Rng) -> u16 {
         rng.next() as u16
+    }
+    fn rows(rows: &[u16]) -> Rows<'_> {
+        Rows::Ten(rows)
     }
 }
 

@@ -6,6 +6,7 @@ pub mod builder;
 pub mod dct;
 pub mod lanes;
 pub mod layout;
+pub mod planes;
 pub mod shown;
 pub mod shuffles;
 pub mod tables;
