@@ -1,15 +1,10 @@
 -- `acread::skip_block`: the loop over a block's symbols.
-use mathlib.Core.Path.{_≡_, refl}
-use Prim.Native.Nat.{ℕ, _-_, _≤_, _<_, _^_}
+use Prim.Native.Nat.{_-_, _<_, _^_}
 use native.Mathlib.Omega.{arith}
 use borrow.Author.Needs.{needs}
 use Rattle.acread.proofs.Going.{Going, going-start, going-turn, going-bad, going-over, span-some}
 use Rattle.acread.proofs.skip_block.Statement.{statement}
 use Rattle.acread.proofs.skip_block.Tie as tie
-use Rattle.acread.proofs.skip_block.Reads as reads
-use Rattle.acread.proofs.skip_block.Lts as lts
-use Rattle.acread.proofs.span.Reads as span-reads
-use Rattle.bitreader.proofs.next_symbol.Reads as next-symbol-reads
 
 abbrev Inv-loop : tie.InvT-loop
 Inv-loop s pending c₀ place₀ c place = (c₀ .pos < 2 ^ 59) × Going s (c₀ .pos) pending c place
@@ -17,19 +12,16 @@ Inv-loop s pending c₀ place₀ c place = (c₀ .pos < 2 ^ 59) × Going s (c₀
 abbrev μ-loop : tie.MeasureT-loop
 μ-loop s pending c₀ place₀ c place = 64 - place
 
--- src/lib.rt:28:5
 loop-holds : tie.Need-loop-holds Inv-loop μ-loop
 loop-holds c =
     let b = c .before in
     (b .pre .1, going-start (b .args .s .now) (b .args .c0) (b .args .pending) (b .pre .0) (b .pre .2))
 
--- src/lib.rt:29:13
 next-symbol-requires : tie.Need-next-symbol-requires Inv-loop μ-loop
 next-symbol-requires c κs =
     let i = c .before .loop .inv in
     (i .1 .holds, omega (arith, i .0, i .1 .near))
 
--- src/lib.rt:31:13
 returns : tie.Need-returns Inv-loop μ-loop
 returns c =
     let a = c .before .before .before .before .before .before .args in
@@ -37,11 +29,9 @@ returns c =
     let g = c .before .before .next-symbol in
     going-bad (a .s .now) (a .c0 .pos) (a .pending) (l .c) (l .place) (g .result) (l .inv .1) (omega arith) (g .ensures) (c .if1 .taken)
 
--- src/lib.rt:34:18
 span-requires : tie.Need-span-requires Inv-loop μ-loop
 span-requires c κs = search needs
 
--- src/lib.rt:34:9
 add-place : tie.Need-add-place Inv-loop μ-loop
 add-place c =
     let a = c .before .before .before .before .before .before .before .before .args in
@@ -49,7 +39,6 @@ add-place c =
     let g = c .before .before .before .before .next-symbol in
     omega (arith, span-some (a .s .now) (l .c) (g .result) (g .ensures) (omega arith), c .span .ensures)
 
--- src/lib.rt:28:5
 loop-less : tie.Need-loop-less Inv-loop μ-loop
 loop-less c =
     let a = c .before .before .before .before .before .before .before .before .args in
@@ -57,7 +46,6 @@ loop-less c =
     let g = c .before .before .before .before .next-symbol in
     omega (arith, span-some (a .s .now) (l .c) (g .result) (g .ensures) (omega arith), c .span .ensures)
 
--- src/lib.rt:28:5
 loop-again : tie.Need-loop-again Inv-loop μ-loop
 loop-again c =
     let a = c .before .before .before .before .before .before .before .before .args in
@@ -65,7 +53,6 @@ loop-again c =
     let g = c .before .before .before .before .next-symbol in
     (l .inv .0, going-turn (a .s .now) (a .c0 .pos) (a .pending) (l .c) (l .place) (g .result) (l .inv .1) (omega arith) (g .ensures) (omega arith) (c .span .ensures))
 
--- src/lib.rt:22:1
 returns-2 : tie.Need-returns-2 Inv-loop μ-loop
 returns-2 c =
     let a = c .before .before .before .args in

@@ -1,5 +1,5 @@
 -- `acread::span`: by the head bit.
-use mathlib.Core.Path.{_≡_, refl, sym, ap}
+use mathlib.Core.Path.{_≡_, refl}
 use Prim.Native.Nat.{ℕ, zero, suc}
 use native.Mathlib.Omega.{arith}
 use Rattle.acread.specs.Block.{spanOf}

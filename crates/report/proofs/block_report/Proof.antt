@@ -1,6 +1,6 @@
 -- `report::block_report`: the questions, the read-through, then the bytes.
 use mathlib.Core.Path.{_≡_, refl, sym, ap, _∙_}
-use Prim.Native.Nat.{ℕ, _*_, _/_}
+use Prim.Native.Nat.{_*_, _/_}
 use native.Mathlib.Omega.{arith}
 use lib.ListN.{length}
 use Rattle.ask.specs.Ask.{firstNo}
@@ -8,29 +8,21 @@ use Rattle.bits.specs.Bits.{bitAt}
 use Rattle.slice.specs.ReadPlane.{readBlocks}
 use Rattle.slice.specs.Questions.{reportQuestions}
 use Rattle.report.specs.Report.{endSays}
-use Rattle.report.specs.declared.PlaneEnd.the-variants as plane
 use Rattle.report.proofs.Blocks.{good-end}
 use Rattle.report.proofs.Asked.{yes, answer-no, answer-bad, answer-end}
 use borrow.Author.Needs.{needs}
 use Rattle.report.proofs.block_report.Statement.{statement}
+use Rattle.report.specs.declared.PlaneEnd.the-variants as plane
 use Rattle.report.proofs.block_report.Tie as tie
-use Rattle.report.proofs.block_report.Reads as reads
-use Rattle.report.proofs.block_report.Lts as lts
-use Rattle.report.proofs.report_number.Reads as report-number-reads
-use Rattle.report.proofs.store_report.Reads as store-report-reads
-use Rattle.report.proofs.through_ac.Reads as through-ac-reads
 
--- src/lib.rt:116:9
 report-number-requires : tie.Need-report-number-requires
 report-number-requires c κs = search needs
 
--- src/lib.rt:118:9
 returns : tie.Need-returns
 returns c =
     let a = c .before .before .before .before .args in
     answer-no (a .stride) (a .report .now) (a .ac .now) (a .at) (c .before .report-number .ensures (a .report .now) refl) (c .if1 .taken)
 
--- src/lib.rt:121:11
 through-ac-requires : tie.Need-through-ac-requires
 through-ac-requires c κs =
     let n = c in
@@ -40,19 +32,15 @@ through-ac-requires c κs =
     let k = yes (a .stride) (a .report .now) (length (a .ac .now)) (a .at) y in
     (k .start, omega (arith, k .wide))
 
--- src/lib.rt:122:27
 enum-known-y : tie.Need-enum-known-y
 enum-known-y c = search needs
 
--- src/lib.rt:123:22
 enum-known-e : tie.Need-enum-known-e
 enum-known-e c = search needs
 
--- src/lib.rt:124:34
 mul-store-report : tie.Need-mul-store-report
 mul-store-report c = search needs
 
--- src/lib.rt:124:13
 store-report-requires : tie.Need-store-report-requires
 store-report-requires c κs =
     let n = c .before .before .before .before .before in
@@ -65,7 +53,6 @@ store-report-requires c κs =
     let g = sym (ap endSays d) ∙ t .ensures in
     (k .start, omega (arith, k .wide), omega (arith, k .room), good-end (readBlocks (2 * (a .stride / 8)) (bitAt (a .ac .now)) (8 * a .at) 0) g)
 
--- src/lib.rt:113:1
 returns-2 : tie.Need-returns-2
 returns-2 c =
     let n = c .before .before .before .before in
@@ -77,11 +64,9 @@ returns-2 c =
     let d : t .result ≡ plane.Refused (c .before .y .given .0 .0) = cc in
     answer-bad (a .stride) (a .report .now) (a .ac .now) (a .at) y (sym (ap endSays d) ∙ t .ensures)
 
--- src/lib.rt:113:1
 same-length : tie.Need-same-length
 same-length c = search needs
 
--- src/lib.rt:113:1
 returns-3 : tie.Need-returns-3
 returns-3 c =
     let n = c .before .before .before .before .before .before .before .before in

@@ -2,14 +2,10 @@
 use borrow.Author.Tests.{lt-ltb, le-ltb}
 use Rattle.report.proofs.flat.Statement.{statement}
 use Rattle.report.proofs.flat.Tie as tie
-use Rattle.report.proofs.flat.Reads as reads
-use Rattle.report.proofs.flat.Lts as lts
 
--- src/lib.rt:53:1
 returns : tie.Need-returns
 returns c = rw (lt-ltb _ _ (c .if1 .taken))
 
--- src/lib.rt:53:1
 returns-2 : tie.Need-returns-2
 returns-2 c = rw (le-ltb _ _ (c .if1 .left))
 

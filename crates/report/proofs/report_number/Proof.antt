@@ -1,19 +1,14 @@
 -- `report::report_number`: each return is the first "no".
-use mathlib.Core.Path.{_≡_, sym, _∙_}
+use mathlib.Core.Path.{sym, _∙_}
 use native.Mathlib.Omega.{arith}
 use Rattle.report.proofs.Asked.{no-stride, no-room, no-start, no-length, all-yes}
 use borrow.Author.Needs.{needs}
 use Rattle.report.proofs.report_number.Statement.{statement}
 use Rattle.report.proofs.report_number.Tie as tie
-use Rattle.report.proofs.report_number.Reads as reads
-use Rattle.report.proofs.report_number.Lts as lts
-use Rattle.report.proofs.stride_ok.Reads as stride-ok-reads
 
--- src/lib.rt:97:8
 stride-ok-requires : tie.Need-stride-ok-requires
 stride-ok-requires c κs = search needs
 
--- src/lib.rt:99:13
 returns : tie.Need-returns
 returns c =
     let t = c .before in
@@ -21,7 +16,6 @@ returns c =
     let y = sym (t .before .stride-ok .ensures) ∙ t .if1 .taken in
     λ report e. no-room (a .stride) report (a .bytes) (a .at) y (omega arith)
 
--- src/lib.rt:102:13
 returns-2 : tie.Need-returns-2
 returns-2 c =
     let t = c .before .before in
@@ -29,7 +23,6 @@ returns-2 c =
     let y = sym (t .before .stride-ok .ensures) ∙ t .if1 .taken in
     λ report e. no-start (a .stride) report (a .bytes) (a .at) y (omega arith) (c .if3 .taken)
 
--- src/lib.rt:105:13
 returns-3 : tie.Need-returns-3
 returns-3 c =
     let t = c .before .before .before in
@@ -37,7 +30,6 @@ returns-3 c =
     let y = sym (t .before .stride-ok .ensures) ∙ t .if1 .taken in
     λ report e. no-length (a .stride) report (a .bytes) (a .at) y (omega arith) (omega arith) (c .if4 .taken)
 
--- src/lib.rt:107:9
 returns-4 : tie.Need-returns-4
 returns-4 c =
     let t = c .before .before .before in
@@ -45,7 +37,6 @@ returns-4 c =
     let y = sym (t .before .stride-ok .ensures) ∙ t .if1 .taken in
     λ report e. all-yes (a .stride) report (a .bytes) (a .at) y (omega arith) (omega arith) (omega arith)
 
--- src/lib.rt:94:1
 returns-5 : tie.Need-returns-5
 returns-5 c =
     let a = c .before .before .args in

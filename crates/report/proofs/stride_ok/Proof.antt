@@ -2,18 +2,13 @@
 use borrow.Author.Tests.{le-leb, lt-leb, eq-eqb, ne-eqb}
 use Rattle.report.proofs.stride_ok.Statement.{statement}
 use Rattle.report.proofs.stride_ok.Tie as tie
-use Rattle.report.proofs.stride_ok.Reads as reads
-use Rattle.report.proofs.stride_ok.Lts as lts
 
--- src/lib.rt:85:9
 returns : tie.Need-returns
 returns c = rw (ne-eqb _ _ (c .if1 .taken))
 
--- src/lib.rt:88:9
 returns-2 : tie.Need-returns-2
 returns-2 c = rw (eq-eqb _ _ (c .before .if1 .left), lt-leb _ _ (c .if2 .taken))
 
--- src/lib.rt:81:1
 returns-3 : tie.Need-returns-3
 returns-3 c = rw (eq-eqb _ _ (c .before .if1 .left), le-leb _ _ (c .if2 .left))
 

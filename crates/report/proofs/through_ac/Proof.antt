@@ -1,26 +1,19 @@
+-- `report::through_ac`: two rows of blocks, left by the label at the first bad code.
 use Rattle.ask.specs.Ask.{refused, accepted}
 use Rattle.bits.specs.Bits.{bitAt, bytesFor}
 use Rattle.bitreader.specs.declared.AcCursor.{AcCursor}
 use Rattle.slice.specs.ReadPlane.{readBlocks}
-use Prim.Native.Nat.{suc}
-use Rattle.acread.specs.declared.BlockEnd.the-variants as block
-use mathlib.Core.Path.{_≡_, refl, sym, ap, _∙_}
-use mathlib.Core.Bool.{true}
+use Prim.Native.Nat.{suc, _+_, _-_, _*_, _≤_}
+use mathlib.Core.Path.{_≡_, refl, ap, _∙_}
 use mathlib.Core.Logic.{⊎-elim}
-use Prim.Native.Nat.{ℕ, _+_, _-_, _*_, _≤_, _<_, _^_}
 use native.Mathlib.Omega.{arith}
 use borrow.Author.Needs.{needs}
-use lib.ListN.{length}
 use Rattle.acread.proofs.Rows.{row-first, row-next, row-last, rows-over}
 use Rattle.report.proofs.Blocks.{end-bad, end-at}
 use Rattle.report.proofs.Going.{Going, going-start, going-left, going-next, going-bad, going-over}
 use Rattle.report.proofs.through_ac.Statement.{statement}
+use Rattle.acread.specs.declared.BlockEnd.the-variants as block
 use Rattle.report.proofs.through_ac.Tie as tie
-use Rattle.report.proofs.through_ac.Reads as reads
-use Rattle.report.proofs.through_ac.Lts as lts
-use Rattle.acread.proofs.skip_block.Reads as skip-block-reads
-use Rattle.bitreader.proofs.cursor.Reads as cursor-reads
-use Rattle.bitreader.proofs.end_byte.Reads as end-byte-reads
 
 abbrev Inv-loop : tie.InvT-loop
 Inv-loop ac at columns c₀ pending₀ number₀ j k₀ c pending number k = (k ≤ columns) × (number ≡ 0) × Going ac (8 * at) (2 * columns) c pending (columns - k + (2 - (j + 1)) * columns)
@@ -34,51 +27,41 @@ Inv-rows ac at columns c₀ pending₀ number₀ j₀ c pending number j = (j �
 abbrev μ-rows : tie.MeasureT-rows
 μ-rows ac at columns c₀ pending₀ number₀ j₀ c pending number j = 2 - j
 
--- src/lib.rt:28:39
 mul-cursor : tie.Need-mul-cursor Inv-loop μ-loop Inv-rows μ-rows
 mul-cursor c = omega arith
 
--- src/lib.rt:28:9
 cursor-requires : tie.Need-cursor-requires Inv-loop μ-loop Inv-rows μ-rows
 cursor-requires c κs = omega arith
 
--- src/lib.rt:31:5
 rows-holds : tie.Need-rows-holds Inv-loop μ-loop Inv-rows μ-rows
 rows-holds c =
     let a = c .before .before .args in
     let r = c .cursor in
     (omega arith, refl, going-start (a .ac .now) (8 * a .at) (2 * a .columns) (r .result) (r .ensures .0) (r .ensures .1))
 
--- src/lib.rt:32:9
 loop-holds : tie.Need-loop-holds Inv-loop μ-loop Inv-rows μ-rows
 loop-holds c =
     let a = c .before .before .before .before .args in
     let i = c .before .rows .inv in
     (omega arith, i .1, going-left _ (row-first (c .before .rows .j) (a .columns) (omega arith)) (i .2))
 
--- src/lib.rt:33:19
 skip-block-requires : tie.Need-skip-block-requires Inv-loop μ-loop Inv-rows μ-rows
 skip-block-requires c κs =
     let i = c .before .loop .inv in
     (i .2 .holds, omega (arith, i .2 .near), i .2 .few)
 
--- src/lib.rt:34:30
 enum-known-d : tie.Need-enum-known-d Inv-loop μ-loop Inv-rows μ-rows
 enum-known-d c = search needs
 
--- src/lib.rt:39:21
 enum-told : tie.Need-enum-told Inv-loop μ-loop Inv-rows μ-rows
 enum-told c = search needs
 
--- src/lib.rt:32:13
 add-k : tie.Need-add-k Inv-loop μ-loop Inv-rows μ-rows
 add-k c = omega arith
 
--- src/lib.rt:32:9
 loop-less : tie.Need-loop-less Inv-loop μ-loop Inv-rows μ-rows
 loop-less c = omega arith
 
--- src/lib.rt:32:9
 loop-again : tie.Need-loop-again Inv-loop μ-loop Inv-rows μ-rows
 loop-again c =
     let a = c .before .before .before .before .before .before .before .before .before .before .args in
@@ -94,28 +77,23 @@ loop-again c =
           (b .ensures) (d .0 .0) (d .0 .1 .0) e,
     )
 
--- src/lib.rt:31:16
 add-j : tie.Need-add-j Inv-loop μ-loop Inv-rows μ-rows
 add-j c = omega arith
 
--- src/lib.rt:31:5
 rows-less : tie.Need-rows-less Inv-loop μ-loop Inv-rows μ-rows
 rows-less c = omega arith
 
--- src/lib.rt:31:5
 rows-again : tie.Need-rows-again Inv-loop μ-loop Inv-rows μ-rows
 rows-again c =
     let a = c .before .before .before .before .before .before .args in
     let i = c .before .loop .inv in
     (omega arith, i .1, going-left _ (row-last (c .before .before .before .rows .j) (c .before .loop .k) (a .columns) (omega arith)) (i .2))
 
--- src/lib.rt:48:22
 end-byte-requires : tie.Need-end-byte-requires Inv-loop μ-loop Inv-rows μ-rows
 end-byte-requires c κs =
     ⊎-elim (λ w. omega (arith, ap (λ (x : AcCursor). x .pos) (w .1), c .before .before .rows .inv .2 .near)) (λ w. absurd (omega arith))
     (c .before .rows-test .came)
 
--- src/lib.rt:24:1
 returns : tie.Need-returns Inv-loop μ-loop Inv-rows μ-rows
 returns c =
     let a = c .before .before .before .before .before .args in
@@ -130,7 +108,6 @@ returns c =
     (going-bad (a .ac .now) (8 * a .at) (2 * a .columns) (l .c) (l .pending) m (going-left (suc m) (row-next j (l .k) (a .columns) (omega arith)) (l .inv .2)) (w .3 .result) (w .3 .ensures) f))
     (c .before .rows-test .came)
 
--- src/lib.rt:24:1
 returns-2 : tie.Need-returns-2 Inv-loop μ-loop Inv-rows μ-rows
 returns-2 c =
     let a = c .before .before .before .before .before .before .args in
