@@ -26,3 +26,17 @@ pub extern "C" fn probe_tables_zigzag(i: usize) -> u8 {
     let z = tables::zigzag_order();
     if i < 64 { z[i] } else { 255 }
 }
+
+// The quality that is in force for q.
+#[no_mangle]
+pub extern "C" fn probe_tables_quality(q: u8) -> u8 {
+    let p = tables::quality::quality_preset(q);
+    p.quality
+}
+
+// The preset of q.
+#[no_mangle]
+pub extern "C" fn probe_tables_preset(q: u8) -> usize {
+    let p = tables::quality::quality_preset(q);
+    p.index
+}

@@ -1,7 +1,7 @@
 // Quantiser numbers, zig-zag scan and quality presets (tables.rs; `reciprocal` and `QuantTables` of dct.rs; `quality_preset` of layout.rs).
 // A preset's numbers are copied out of the constants once for each plane: a constant that a loop indexes would be built anew in each turn.
 mod divisors;
-mod quality;
+pub mod quality;
 mod table;
 
 ghost use mathlib.Core.Path.{_≡_};

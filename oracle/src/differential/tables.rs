@@ -27,8 +27,8 @@ pub fn run(run: &mut Run) {
     let order = run.report.kind("tables: zig-zag scan");
     run.report.same(order, &ours::tables::zigzag(), &ZIGZAG, 0, || "the scan".into());
     let presets = run.report.kind("tables: quality_preset 0..255");
-    for quality in 0..=255 {
-        let (_, preset) = quality_preset(quality);
-        run.report.check(presets, preset < PRESETS, 0, || format!("quality {quality}"));
+    for quality in 0..=255u8 {
+        let answer = quality_preset(quality as i32);
+        run.report.same(presets, &ours::tables::quality_preset(quality), &answer, 0, || format!("quality {quality}"));
     }
 }

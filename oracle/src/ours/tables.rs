@@ -4,6 +4,8 @@ extern "C" {
     fn probe_tables_encode(preset: usize, out: *mut u16, n: usize);
     fn probe_tables_decode(preset: usize, out: *mut u16, n: usize);
     fn probe_tables_zigzag(i: usize) -> u8;
+    fn probe_tables_quality(q: u8) -> u8;
+    fn probe_tables_preset(q: u8) -> usize;
 }
 
 /// Correction, reciprocal and scale of a preset's places.
@@ -22,4 +24,9 @@ pub fn decode(preset: usize) -> [u16; 64] {
 
 pub fn zigzag() -> [usize; 64] {
     core::array::from_fn(|i| unsafe { probe_tables_zigzag(i) } as usize)
+}
+
+/// The quality in force for q, and its preset.
+pub fn quality_preset(q: u8) -> (i32, usize) {
+    unsafe { (probe_tables_quality(q) as i32, probe_tables_preset(q)) }
 }
