@@ -90,13 +90,26 @@ fn read<T: Made>(run: &mut Run, rust: &Rust, other: &impl Calls, depth: &str) {
     let before = Buffers { dc: r.dc.clone(), dc_at: r.dc_at, ac: r.ac.clone(), ac_at: r.ac_at };
     let (mut p, mut b) = (plane.clone(), before.clone());
     let wanted = rust.read_plane(settings, &mut p, &mut b);
+    let ends = (b.dc_at, b.ac_at);
     let name = if wanted == 0 { "read" } else { "refused for a bad code" };
     let kind = run.report.kind(format!("planes: {name}, {depth}, {}", other.name()));
     let (mut q, mut c) = (plane, before.clone());
     let found = other.read_plane(settings, &mut q, &mut c);
     run.report.same(kind, &(found, q, c), &(wanted, p, b), r.size(), || r.text());
+    ends_agree(run, rust, &r, &before, wanted, ends);
     previewed(run, rust, other, &r, &before);
     reported(run, rust, other, &r, &before);
+}
+
+/// A plane is refused where its DC or its AC stream alone is, and ends where each of them ends.
+fn ends_agree<T>(run: &mut Run, rust: &Rust, r: &Reading<T>, before: &Buffers, number: u32, ends: (usize, usize)) {
+    let kind = run.report.kind("planes: preview and block report end where the plane ends");
+    let (mut x, mut y, mut flat) = (vec![0; r.stride / 8], vec![0; r.stride / 8], vec![0; r.stride / 4]);
+    let mut b = before.clone();
+    let dc = rust.preview(r.dc_shift, r.place, r.stride, [&mut x, &mut y], &mut b);
+    let ac = rust.block_report(r.stride, &mut flat, &mut b);
+    let found = if dc == 0 && ac == 0 { (0, (b.dc_at, b.ac_at)) } else { (8, (before.dc_at, before.ac_at)) };
+    run.report.same(kind, &found, &(number, ends), r.size(), || r.text());
 }
 
 fn previewed<T>(run: &mut Run, rust: &Rust, other: &impl Calls, r: &Reading<T>, before: &Buffers) {
