@@ -20,9 +20,9 @@ returns c =
     let e : stream.Refused (k .x .given .0 .0) (k .x .given .0 .1 .0) ≡ v .put-stream .result = cc in
     let g = stream-refused e (v .put-stream .ensures) in
     let q =
-        ap
-        (λ (x : Bool). streamOf (stateOf (a .slices) (a .max-dc-len) (a .max-ac-len) (a .ac-turn .now) (a .next .now) (a .at .now)) x (a .slice) (a .stream .now) (a .out .now))
-        (n .kind-of .ensures) in
+    ap
+    (λ (x : Bool). streamOf (stateOf (a .slices) (a .max-dc-len) (a .max-ac-len) (a .ac-turn .now) (a .next .now) (a .at .now)) x (a .slice) (a .stream .now) (a .out .now))
+    (n .kind-of .ensures) in
     rw (sym q ∙ g .0) (refl, g .1, refl, refl, refl)
 
 returns-2 : tie.Need-returns-2
@@ -33,18 +33,18 @@ returns-2 c =
     let a = n .before .before .before .args in
     let e : stream.Next (k .s .given .0 .0) ≡ v .put-stream .result = cc in
     let was : Builder =
-        record {
-          slices = a .slices;
-          «max_dc_len» = a .max-dc-len;
-          «max_ac_len» = a .max-ac-len;
-          «ac_turn» = isOn (a .ac-turn .now);
-          next = a .next .now;
-          at = a .at .now;
-        } in
+    record {
+      slices = a .slices;
+      «max_dc_len» = a .max-dc-len;
+      «max_ac_len» = a .max-ac-len;
+      «ac_turn» = isOn (a .ac-turn .now);
+      next = a .next .now;
+      at = a .at .now;
+    } in
     let q =
-        ap
-        (λ (x : Bool). streamOf (stateOf (a .slices) (a .max-dc-len) (a .max-ac-len) (a .ac-turn .now) (a .next .now) (a .at .now)) x (a .slice) (a .stream .now) (a .out .now))
-        (n .kind-of .ensures) in
+    ap
+    (λ (x : Bool). streamOf (stateOf (a .slices) (a .max-dc-len) (a .max-ac-len) (a .ac-turn .now) (a .next .now) (a .at .now)) x (a .slice) (a .stream .now) (a .out .now))
+    (n .kind-of .ensures) in
     rw (sym q ∙ stream-next was (a .out .now) e (v .put-stream .ensures)) (refl, refl, c .flag .ensures, refl, refl)
 
 pub vmx-frame-put-spec : {M : Type 1} → statement M

@@ -15,10 +15,10 @@ returns c =
     let a = v .before .before .before .args in
     let e : view.Refused (k .x .given .0 .0) ≡ v .view-at .result = cc in
     let g =
-        sym
-        (ap viewSays e
-        ∙ v .view-at .ensures
-        ∙ ap (λ (b : Bool). viewOf (a .width) (a .height) (a .frame .now) b (a .slice)) (v .before .kind-of .ensures)) in
+    sym
+    (ap viewSays e
+    ∙ v .view-at .ensures
+    ∙ ap (λ (b : Bool). viewOf (a .width) (a .height) (a .frame .now) b (a .slice)) (v .before .kind-of .ensures)) in
     rw g (refl, refl, refl)
 
 returns-2 : tie.Need-returns-2
@@ -28,10 +28,10 @@ returns-2 c =
     let a = v .before .before .before .args in
     let e : view.Part (k .p .given .0 .0) (k .p .given .0 .1 .0) ≡ v .view-at .result = cc in
     let g =
-        sym
-        (ap viewSays e
-        ∙ v .view-at .ensures
-        ∙ ap (λ (b : Bool). viewOf (a .width) (a .height) (a .frame .now) b (a .slice)) (v .before .kind-of .ensures)) in
+    sym
+    (ap viewSays e
+    ∙ v .view-at .ensures
+    ∙ ap (λ (b : Bool). viewOf (a .width) (a .height) (a .frame .now) b (a .slice)) (v .before .kind-of .ensures)) in
     rw g (refl, refl, refl)
 
 pub vmx-stream-spec : {M : Type 1} → statement M
