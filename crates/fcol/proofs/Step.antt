@@ -13,9 +13,9 @@ unfolding _▸_
 step f g e p = p ∙ ap f (toZ-ofZ g ∙ e)
 
 -- the same for a call that returns a struct
-pub take : {A B : Type 0} {x r : A} (f : A → B) {z : B} → r ≡ x → z ≡ f r → z ≡ (x ▸ f)
+pub step-struct : {A B : Type 0} {x r : A} (f : A → B) {z : B} → r ≡ x → z ≡ f r → z ≡ (x ▸ f)
 unfolding _▸_
-take f e p = p ∙ ap f e
+step-struct f e p = p ∙ ap f e
 
 -- parameters, each read back from its bits
 pub enter4 : {A : Type 0} (f : ℤ → ℤ → ℤ → ℤ → A) {a b c d : ℤ} → SFits w16 a → SFits w16 b → SFits w16 c → SFits w16 d

@@ -6,7 +6,7 @@ use mir.Syntax.{w16}
 use mir.Val.{SFits}
 use Rattle.fcol.specs.Steps.{butterflyOf, evenOf, oddOf, columnOf}
 use Rattle.fcol.specs.declared.Lanes.{Lanes}
-use Rattle.fcol.proofs.Step.{take, enter4, enter8}
+use Rattle.fcol.proofs.Step.{step-struct, enter4, enter8}
 use Rattle.fcol.proofs.column.Statement.{statement}
 use Rattle.fcol.proofs.column.Tie as tie
 
@@ -26,9 +26,9 @@ returns c =
     let te = s9 .struct-told9 .given in
     let to = c .struct-told10 .given in
     let tb = s4 .struct-told4 .given in
-    take _ (b .butterfly .ensures ∙ enter8 butterflyOf (s .fits .x0) (s .fits .x1) (s .fits .x2) (s .fits .x3) (s .fits .x4) (s .fits .x5) (s .fits .x6) (s .fits .x7))
-    (take _ (e .even .ensures ∙ enter4 (evenOf (s .args .shift)) (sfits-of (tb .0 .1)) (sfits-of (tb .1 .0 .1)) (sfits-of (tb .1 .1 .0 .1)) (sfits-of (tb .1 .1 .1 .0 .1)))
-    (take _ (o .odd .ensures ∙ enter4 (oddOf (s .args .shift)) (sfits-of (tb .1 .1 .1 .1 .0 .1)) (sfits-of (tb .1 .1 .1 .1 .1 .0 .1)) (sfits-of (tb .1 .1 .1 .1 .1 .1 .0 .1)) (sfits-of (tb .1 .1 .1 .1 .1 .1 .1 .0 .1)))
+    step-struct _ (b .butterfly .ensures ∙ enter8 butterflyOf (s .fits .x0) (s .fits .x1) (s .fits .x2) (s .fits .x3) (s .fits .x4) (s .fits .x5) (s .fits .x6) (s .fits .x7))
+    (step-struct _ (e .even .ensures ∙ enter4 (evenOf (s .args .shift)) (sfits-of (tb .0 .1)) (sfits-of (tb .1 .0 .1)) (sfits-of (tb .1 .1 .0 .1)) (sfits-of (tb .1 .1 .1 .0 .1)))
+    (step-struct _ (o .odd .ensures ∙ enter4 (oddOf (s .args .shift)) (sfits-of (tb .1 .1 .1 .1 .0 .1)) (sfits-of (tb .1 .1 .1 .1 .1 .0 .1)) (sfits-of (tb .1 .1 .1 .1 .1 .1 .0 .1)) (sfits-of (tb .1 .1 .1 .1 .1 .1 .1 .0 .1)))
     (enter8 lanes (sfits-of (te .0 .1)) (sfits-of (to .0 .1)) (sfits-of (te .1 .0 .1)) (sfits-of (to .1 .0 .1)) (sfits-of (te .1 .1 .0 .1)) (sfits-of (to .1 .1 .0 .1)) (sfits-of (te .1 .1 .1 .0 .1)) (sfits-of (to .1 .1 .1 .0 .1)))))
 
 pub column-spec : {M : Type 1} → statement M
