@@ -1,0 +1,53 @@
+// A plane's blocks, read one by one from both streams (slice.rs, decode_plane without the transform).
+ghost use mathlib.Core.Path.{_≡_};
+ghost use lib.IntN.{pos};
+ghost use Prim.Native.Nat.{_*_, _^_, _<_};
+ghost use Rattle.bits.specs.Bits.{bitAt, bytesFor};
+ghost use Rattle.blockread.specs.On.{Ready};
+use bitreader::AcCursor;
+
+// Between two blocks: where each stream is read next, the zeros of a run that are still to come, the DC of the block before.
+pub struct Stand {
+    pub dc: AcCursor,
+    pub ac: AcCursor,
+    pub pending: u64,
+    pub last: i16,
+}
+
+// A block: its 64 coefficients in natural order, whether no AC symbol was read for it, and what follows.
+pub struct BlockGot {
+    pub next: Stand,
+    pub flat: bool,
+    pub nat: [i16; 64],
+}
+
+// A plane's start: the streams from the bytes d and a on.
+pub fn begin(dc: &[u8], d: usize, ac: &[u8], a: usize) -> Stand
+    requires { ⌜ (d < 2 ^ 30) × (a < 2 ^ 30) ⌝ }
+    ensures { λ r. ⌜ Ready (now (dc .entry)) (now (ac .entry)) r × (r .dc .pos ≡ 8 * d) × (r .ac .pos ≡ 8 * a) × (r .pending ≡ 0) × (r .last ≡ pos 0) ⌝ }
+{
+    Stand {
+        dc: bitreader::cursor(dc, 8 * d),
+        ac: bitreader::cursor(ac, 8 * a),
+        pending: 0,
+        last: 0,
+    }
+}
+
+// The byte behind the DC stream's codes.
+pub fn dc_end(s: Stand) -> usize
+    requires { ⌜ s .dc .pos < 2 ^ 62 ⌝ }
+    ensures { λ r. ⌜ r ≡ bytesFor (s .dc .pos) ⌝ }
+{
+    let c = s.dc;
+    bitreader::end_byte(c)
+}
+
+// The byte behind the AC stream's codes.
+pub fn ac_end(s: Stand) -> usize
+    requires { ⌜ s .ac .pos < 2 ^ 62 ⌝ }
+    ensures { λ r. ⌜ r ≡ bytesFor (s .ac .pos) ⌝ }
+{
+    let c = s.ac;
+    bitreader::end_byte(c)
+}
