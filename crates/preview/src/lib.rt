@@ -30,7 +30,7 @@ pub struct RowEnd {
 
 // Reads a plane's DC stream through: two rows of blocks, left at the first bad code.
 pub fn through_dc(dc: &[u8], at: usize, columns: usize) -> PlaneEnd
-    requires { ⌜ (at ≤ 16777215) × (columns ≤ 960) ⌝ }
+    requires { ⌜ (at < 2 ^ 31) × (columns ≤ 960) ⌝ }
     ensures { λ r. ⌜ endSays r ≡ dcEnd (readSteps (2 * columns) (bitAt (now (dc .entry))) (8 * at)) ⌝ }
 {
     let mut c = bitreader::cursor(dc, 8 * at);

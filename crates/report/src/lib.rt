@@ -3,7 +3,7 @@
 ghost use mathlib.Core.Path.{_≡_};
 ghost use mathlib.Core.Bool.{true};
 ghost use mathlib.Core.List.{List};
-ghost use Prim.Native.Nat.{ℕ, _*_, _/_, _≤_};
+ghost use Prim.Native.Nat.{ℕ, _*_, _/_, _^_, _≤_, _<_};
 ghost use lib.ListN.{length};
 ghost use Rattle.ask.specs.Ask.{firstNo};
 ghost use Rattle.bits.specs.Bits.{bitAt};
@@ -22,7 +22,7 @@ pub enum PlaneEnd {
 
 // Reads a plane's AC stream through: two rows of blocks, left at the first bad code.
 pub fn through_ac(ac: &[u8], at: usize, columns: usize) -> PlaneEnd
-    requires { ⌜ (at ≤ 16777215) × (columns ≤ 960) ⌝ }
+    requires { ⌜ (at < 2 ^ 31) × (columns ≤ 960) ⌝ }
     ensures { λ r. ⌜ endSays r ≡ acEnd (readBlocks (2 * columns) (bitAt (now (ac .entry))) (8 * at) 0) ⌝ }
 {
     let mut c = bitreader::cursor(ac, 8 * at);

@@ -43,7 +43,7 @@ through-dc-requires c κs =
     let z : n .before .preview-number .result ≡ 0 = omega (arith, n .if1 .left) in
     let y : firstNo (previewQuestions (a .shift) (a .place) (a .stride) (a .upper .now) (a .lower .now) (length (a .dc .now)) (a .at)) ≡ 0 = sym (n .before .preview-number .ensures (a .upper .now) (a .lower .now) refl refl) ∙ z in
     let k = yes (a .shift) (a .place) (a .stride) (a .upper .now) (a .lower .now) (length (a .dc .now)) (a .at) y in
-    (k .start, omega (arith, k .wide))
+    (omega (arith, k .start), omega (arith, k .wide))
 
 enum-known-y : tie.Need-enum-known-y
 enum-known-y c = search needs

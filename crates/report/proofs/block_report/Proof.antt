@@ -30,7 +30,7 @@ through-ac-requires c κs =
     let z : n .before .report-number .result ≡ 0 = omega (arith, n .if1 .left) in
     let y : firstNo (reportQuestions (a .stride) (a .report .now) (length (a .ac .now)) (a .at)) ≡ 0 = sym (n .before .report-number .ensures (a .report .now) refl) ∙ z in
     let k = yes (a .stride) (a .report .now) (length (a .ac .now)) (a .at) y in
-    (k .start, omega (arith, k .wide))
+    (omega (arith, k .start), omega (arith, k .wide))
 
 enum-known-y : tie.Need-enum-known-y
 enum-known-y c = search needs
