@@ -1,0 +1,4 @@
+pub mod Ends
+pub mod Clean
+pub mod Planes
+pub mod Turns

@@ -1,0 +1,75 @@
+-- Planes are read without a bad code where each of the two streams is.
+use mathlib.Core.Path.{_≡_, refl, sym, ap, _∙_}
+use mathlib.Core.Bool.{Bool, true, false, _&&_}
+use mathlib.Core.List.{List, [], _∷_}
+use Prim.Native.Nat.{ℕ, zero, suc, _*_, _/_, _≤_, _<_}
+use native.Mathlib.Omega.{arith}
+use lib.ListN.{take, getD}
+use lib.Seq.{take-nil}
+use Rattle.bits.specs.Bits.{bitAt, bytesFor}
+use Rattle.slice.specs.Arguments.{Settings, Rows, Plane, oneSlice, planesOf, PerStream, Buffers}
+use Rattle.slice.specs.ReadPlane.{BlockRead, Blocks, badBlocks, blocks, readBlocks, DcSteps, badSteps, dcSteps, readSteps, bothStreams, readPlane}
+use Rattle.slice.specs.Plane.{blocksOf}
+use Rattle.slice.specs.Calls.{PlanesRead, badPlanes, planesRead, planeThen, byPlane, readPlanes}
+use Rattle.preview.specs.Row.{dcEnd}
+use Rattle.report.specs.Report.{acEnd}
+use Rattle.blockread.specs.On.{goodPlane}
+use Rattle.judge.specs.Good.{goodPlanes, strides, dcPlane, acPlane, goesOn, goodInTurn}
+
+and-none : (x : Bool) → false ≡ (x && false)
+and-none true = refl
+and-none false = refl
+
+then-good : (b : List BlockRead) (x : PlanesRead) → goodPlanes (planeThen b x) ≡ goodPlanes x
+then-good b badPlanes = refl
+then-good b (planesRead bs at) = refl
+
+by-both : (shift : ℕ) (x : DcSteps) (y : Blocks) (next : PerStream → PlanesRead) (f g : ℕ → Bool) → ((q : PerStream) → goodPlanes (next q) ≡ (f (q .dc) && g (q .ac)))
+    → goodPlanes (byPlane (bothStreams shift x y) next) ≡ (goesOn (dcEnd x) f && goesOn (acEnd y) g)
+by-both shift badSteps y next f g h = refl
+by-both shift (dcSteps ts q) badBlocks next f g h = and-none (f (bytesFor q))
+by-both shift (dcSteps ts q) (blocks bs r z) next f g h = then-good _ (next _) ∙ h _
+
+pub planes-good : (shift : ℕ) (ps : List Plane) (b : Buffers) (at : PerStream)
+    → goodPlanes (readPlanes shift ps b at) ≡ (goodInTurn (dcPlane (b .dcBytes)) (strides ps) (at .dc) && goodInTurn (acPlane (b .acBytes)) (strides ps) (at .ac))
+unfolding readPlanes readPlane goodInTurn
+planes-good shift [] b at = refl
+planes-good shift (p ∷ ps) b at =
+    by-both shift (readSteps (blocksOf (p .stride)) (bitAt (b .dcBytes)) (8 * at .dc)) (readBlocks (blocksOf (p .stride)) (bitAt (b .acBytes)) (8 * at .ac) 0)
+    (λ q. readPlanes shift ps b q) (λ q. goodInTurn (dcPlane (b .dcBytes)) (strides ps) q) (λ q. goodInTurn (acPlane (b .acBytes)) (strides ps) q) (λ q. planes-good shift ps b q)
+
+one-both : (shift : ℕ) (x : DcSteps) (y : Blocks) → goodPlane (bothStreams shift x y) ≡ (goesOn (dcEnd x) (λ q. true) && goesOn (acEnd y) (λ q. true))
+one-both shift badSteps y = refl
+one-both shift (dcSteps ts q) badBlocks = refl
+one-both shift (dcSteps ts q) (blocks bs r z) = refl
+
+pub plane-good : (shift columns : ℕ) (dc ac : List ℕ) (d a : ℕ)
+    → goodPlane (readPlane shift (2 * columns) dc ac d a) ≡ (goodInTurn (dcPlane dc) (8 * columns ∷ []) d && goodInTurn (acPlane ac) (8 * columns ∷ []) a)
+unfolding readPlane goodInTurn
+plane-good shift columns dc ac d a =
+    let e : columns ≡ 8 * columns / 8 = omega arith in
+    one-both shift (readSteps (2 * columns) (bitAt dc) (8 * d)) (readBlocks (2 * columns) (bitAt ac) (8 * a) 0)
+    ∙ ap (λ (n : ℕ). goesOn (dcEnd (readSteps (2 * n) (bitAt dc) (8 * d))) (λ q. true) && goesOn (acEnd (readBlocks (2 * n) (bitAt ac) (8 * a) 0)) (λ q. true)) e
+
+-- the stride of the one plane
+pub one-stride : (w : ℕ) → w ≤ 7680 → (k : ℕ) → k < 1 → getD (w ∷ 0 ∷ 0 ∷ 0 ∷ []) k 0 ≤ 7680
+one-stride w h zero g = h
+one-stride w h (suc k) g = absurd (omega arith)
+
+-- the answer from the two streams'
+pub both-streams : {x y r : Bool} → x ≡ true → r ≡ y → r ≡ (x && y)
+both-streams {y = y} e f = f ∙ sym (ap (λ (b : Bool). b && y) e)
+
+pub dc-bad : {x : Bool} (y : Bool) → x ≡ false → false ≡ (x && y)
+dc-bad y e = sym (ap (λ (b : Bool). b && y) e)
+
+-- the strides of a slice's first n planes
+pub slice-strides : (σ : Settings) (n : ℕ) (a b c d : Rows) → strides (planesOf (oneSlice σ n a b c d)) ≡ take n (a .stride ∷ b .stride ∷ c .stride ∷ d .stride ∷ [])
+slice-strides σ zero a b c d = refl
+slice-strides σ (suc zero) a b c d = refl
+slice-strides σ (suc (suc zero)) a b c d = refl
+slice-strides σ (suc (suc (suc zero))) a b c d = refl
+slice-strides σ (suc (suc (suc (suc n)))) a b c d = ap (λ (l : List ℕ). a .stride ∷ b .stride ∷ c .stride ∷ d .stride ∷ l) (none n)
+  where
+    none : (n : ℕ) → strides (take n []) ≡ take n []
+    none n = ap strides (take-nil n) ∙ sym (take-nil n)

@@ -1,0 +1,45 @@
+-- Whether a bad code stands in what a reading call reaches. Document 01, 'Plane and slice' and question 8: "z at most 54 in every code reached?"
+use mathlib.Core.Bool.{Bool, true, false}
+use mathlib.Core.List.{List, [], _∷_}
+use Prim.Native.Nat.{ℕ, _*_}
+use Rattle.ask.specs.Ask.{Answer, refused, accepted}
+use Rattle.bits.specs.Bits.{bitAt}
+use Rattle.slice.specs.Arguments.{Plane, PerStream, Buffers}
+use Rattle.slice.specs.ReadPlane.{readSteps, readBlocks}
+use Rattle.slice.specs.Plane.{blocksOf}
+use Rattle.slice.specs.Calls.{PlanesRead, badPlanes, planesRead}
+use Rattle.preview.specs.Row.{dcEnd}
+use Rattle.report.specs.Report.{acEnd}
+
+-- no bad code in any of the planes read
+abbrev pub goodPlanes : PlanesRead → Bool
+goodPlanes badPlanes = false
+goodPlanes (planesRead bs at) = true
+
+abbrev pub buffers : List ℕ → List ℕ → Buffers
+buffers dc ac = record { dcBytes = dc; acBytes = ac }
+
+abbrev pub positions : ℕ → ℕ → PerStream
+positions d a = record { dc = d; ac = a }
+
+abbrev pub strides : List Plane → List ℕ
+strides [] = []
+strides (p ∷ ps) = p .stride ∷ strides ps
+
+-- ---- one stream by itself
+
+-- the byte where a plane's DC stream ends that begins at the byte `at`, its AC stream likewise; refused at a bad code
+abbrev pub dcPlane : List ℕ → ℕ → ℕ → Answer ℕ
+dcPlane dc stride at = dcEnd (readSteps (blocksOf stride) (bitAt dc) (8 * at))
+
+abbrev pub acPlane : List ℕ → ℕ → ℕ → Answer ℕ
+acPlane ac stride at = acEnd (readBlocks (blocksOf stride) (bitAt ac) (8 * at) 0)
+
+abbrev pub goesOn : Answer ℕ → (ℕ → Bool) → Bool
+goesOn (refused n) next = false
+goesOn (accepted q) next = next q
+
+-- planes of these strides, each read from where the one before ended: no bad code in any
+unfoldable pub goodInTurn : (ℕ → ℕ → Answer ℕ) → List ℕ → ℕ → Bool
+goodInTurn read [] at = true
+goodInTurn read (w ∷ ws) at = goesOn (read w at) (λ q. goodInTurn read ws q)
