@@ -1,0 +1,46 @@
+-- A painter's call is the block of the definition: filled flat, or transformed.
+use mathlib.Core.Path.{_≡_, refl, sym, ap, ap₂, _∙_}
+use mathlib.Core.Bool.{Bool, true, false}
+use mathlib.Core.List.{List, [], _∷_}
+use Prim.Native.Nat.{ℕ}
+use lib.IntN.{ℤ, pos}
+use lib.ListN.{length, getD}
+use Rattle.paint.specs.Paint.{storeBlock, sampleAt}
+use Rattle.paint.specs.Samples.{flatSample}
+use Rattle.paint.proofs.Pixels.{store-ext, flat-block}
+use Rattle.quant.specs.Quantise.{coefficient, scanOf, naturalOf, dequantiseOf}
+use Rattle.quant.proofs.Blocks.{scan-first, natural-scan}
+use Rattle.idct.specs.Inverse.{inverseOf}
+use Rattle.idct.proofs.Bounds.{sample-at}
+use Rattle.dct.specs.Decode.{blockSample}
+use Rattle.slice.specs.Arguments.{Depth, eight, ten, isTen}
+use Rattle.slice.specs.Streams.{dcOf}
+use Rattle.slice.specs.Plane.{level, transformed, filledFlat, blockSamples}
+use Rattle.painted.specs.Block.{natural, BlockPainted}
+
+first : (l : List ℤ) → coefficient l 0 ≡ dcOf l
+first [] = refl
+first (c ∷ cs) = refl
+
+module _ (stride preset : ℕ) (v : ℤ) (nat : List ℤ) (l : List ℕ) {y : List ℕ} where
+  pub flat : {dc : ℤ} → dc ≡ coefficient nat 0 → y ≡ storeBlock stride (λ i. flatSample v dc) l → BlockPainted eight stride preset v (natural false nat) l y
+  unfolding blockSamples filledFlat
+  flat {dc} e f place h =
+      f ∙ sym (flat-block stride l (sym (ap₂ flatSample h (e ∙ sym (scan-first nat) ∙ first (scanOf nat)))))
+
+  block : (depth : Depth) (symbolRead : Bool) (place : ℕ) → length nat ≡ 64 → v ≡ level depth place → y ≡ storeBlock stride (blockSample (isTen depth) preset v nat) l
+      → y ≡ storeBlock stride (sampleAt (transformed depth preset place (natural symbolRead nat))) l
+  unfolding transformed blockSample
+  block depth symbolRead place e h f =
+      f
+      ∙ store-ext stride (blockSample (isTen depth) preset v nat) (sampleAt (transformed depth preset place (natural symbolRead nat))) l
+      (λ i b.
+      rw (natural-scan nat e, ← h) (sym (sample-at (isTen depth) (inverseOf (isTen depth) v (dequantiseOf (isTen depth) preset nat)) i b)))
+
+  pub block8 : length nat ≡ 64 → y ≡ storeBlock stride (blockSample false preset v nat) l → BlockPainted eight stride preset v (natural true nat) l y
+  unfolding blockSamples
+  block8 e f place h = block eight true place e h f
+
+  pub block10 : (symbolRead : Bool) → length nat ≡ 64 → y ≡ storeBlock stride (blockSample true preset v nat) l → BlockPainted ten stride preset v (natural symbolRead nat) l y
+  unfolding blockSamples
+  block10 symbolRead e f place h = block ten symbolRead place e h f

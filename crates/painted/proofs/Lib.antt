@@ -1,0 +1,3 @@
+pub mod Corner
+pub mod Painting
+mod Joined

@@ -1,0 +1,24 @@
+-- One block painted into the rows from its corner on. Document 01, 'Plane and slice'.
+use mathlib.Core.Path.{_≡_}
+use mathlib.Core.Bool.{Bool}
+use mathlib.Core.List.{List}
+use Prim.Native.Nat.{ℕ}
+use lib.IntN.{ℤ}
+use Rattle.quant.specs.Quantise.{scanOf}
+use Rattle.paint.specs.Paint.{storeBlock, sampleAt}
+use Rattle.slice.specs.Arguments.{Depth, ten}
+use Rattle.slice.specs.ReadPlane.{BlockRead}
+use Rattle.slice.specs.Plane.{level, blockSamples}
+
+-- a block read, by its coefficients in natural order
+abbrev pub natural : Bool → List ℤ → BlockRead
+natural symbolRead nat = record { symbolRead = symbolRead; coeffs = scanOf nat }
+
+-- "Each block is decoded into the part of the lent rows that begins at its corner": its samples in a plane of the level v, whatever its place
+abbrev pub BlockPainted : Depth → ℕ → ℕ → ℤ → BlockRead → List ℕ → List ℕ → Type 0
+BlockPainted depth stride preset v b rows rows' =
+    (place : ℕ) → v ≡ level depth place → rows' ≡ storeBlock stride (sampleAt (blockSamples depth preset place b)) rows
+
+-- "A 10-bit block is always transformed": whether a symbol was read for it or not
+abbrev pub BlockPainted10 : ℕ → ℕ → ℤ → List ℤ → List ℕ → List ℕ → Type 0
+BlockPainted10 stride preset v nat rows rows' = (symbolRead : Bool) → BlockPainted ten stride preset v (natural symbolRead nat) rows rows'

@@ -1,0 +1,62 @@
+// The painters of one block (write_block of slice.rs): each receives the rows from the block's corner on.
+// The divisors are tables::decode_numbers(preset)'s and the table irow::table()'s: a caller makes both once for a plane.
+ghost use mathlib.Core.Path.{_≡_};
+ghost use Prim.Native.Nat.{_+_, _*_, _≤_, _<_};
+ghost use lib.ListN.{length};
+ghost use Rattle.tables.specs.Divisor.{divisorsOf};
+ghost use Rattle.irow.specs.Stages.{inverseTab};
+ghost use Rattle.slice.specs.Arguments.{eight, ten};
+ghost use Rattle.slice.specs.Plane.{level};
+ghost use Rattle.painted.specs.Block.{natural, BlockPainted, BlockPainted10};
+
+// The level of an 8-bit plane, as the painters take it.
+pub fn level8(place: usize) -> i16
+    ensures { λ r. ⌜ r ≡ level eight place ⌝ }
+{
+    encplane::level8(place) as i16
+}
+
+// The level of a 10-bit plane.
+pub fn level10(place: usize) -> i16
+    ensures { λ r. ⌜ r ≡ level ten place ⌝ }
+{
+    encplane::level10(place) as i16
+}
+
+// Paints an 8-bit block: flat when no AC symbol was read for it, else by the inverse transform.
+pub fn paint8(
+    rows: &mut [u8],
+    stride: usize,
+    nat: [i16; 64],
+    has_ac: bool,
+    preset: usize,
+    d: &[u16; 64],
+    level: i16,
+    t: &[i16; 256],
+)
+    requires { ⌜ (8 ≤ stride) × (stride ≤ 7680) × (7 * stride + 8 ≤ length (now rows)) × (preset < 25) × (now d ≡ divisorsOf preset) × (now t ≡ inverseTab) ⌝ }
+    ensures { λ _. ⌜ BlockPainted eight stride preset level (natural «has_ac» nat) (now (rows .entry)) (now (rows .exit)) ⌝ }
+{
+    if has_ac {
+        dct::inverse::idct8(rows, stride, nat, preset, d, level, t);
+    } else {
+        let dc = nat[0];
+        dct::inverse::broadcast_dc8(rows, stride, dc, level);
+    }
+}
+
+// Paints a 10-bit block: always by the inverse transform.
+pub fn paint16(
+    rows: &mut [u16],
+    stride: usize,
+    nat: [i16; 64],
+    preset: usize,
+    d: &[u16; 64],
+    level: i16,
+    t: &[i16; 256],
+)
+    requires { ⌜ (8 ≤ stride) × (stride ≤ 7680) × (7 * stride + 8 ≤ length (now rows)) × (preset < 25) × (now d ≡ divisorsOf preset) × (now t ≡ inverseTab) ⌝ }
+    ensures { λ _. ⌜ BlockPainted10 stride preset level nat (now (rows .entry)) (now (rows .exit)) ⌝ }
+{
+    dct::inverse::idct16(rows, stride, nat, preset, d, level, t);
+}
