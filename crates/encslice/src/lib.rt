@@ -63,15 +63,15 @@ pub fn slice10(
     ensures { λ r. ⌜ SliceDone (settings ten preset shift) count (rows stride0 (now (p0 .entry))) (rows stride1 (now (p1 .entry))) (rows stride2 (now (p2 .entry))) (rows stride3 (now (p3 .entry))) (now (dcs .entry)) d (now (acs .entry)) a r (now (dcs .exit)) (now (acs .exit)) ⌝ }
 {
     let e0 = encplane::plane10(p0, stride0, 0, preset, shift, dcs, d, acs, a);
-    if count < 2 {
+    if count <= 1 {
         return e0;
     }
     let e1 = encplane::plane10(p1, stride1, 1, preset, shift, dcs, e0.dc, acs, e0.ac);
-    if count < 3 {
+    if count <= 2 {
         return e1;
     }
     let e2 = encplane::plane10(p2, stride2, 2, preset, shift, dcs, e1.dc, acs, e1.ac);
-    if count < 4 {
+    if count <= 3 {
         return e2;
     }
     encplane::plane10(p3, stride3, 3, preset, shift, dcs, e2.dc, acs, e2.ac)
