@@ -1,0 +1,5 @@
+pub mod Scan
+pub mod Symbols
+pub mod Going
+pub mod Split
+pub mod Good

@@ -1,1 +1,2 @@
 pub mod On
+pub mod Places
