@@ -1,7 +1,5 @@
 // The coding calls of one plane: the questions in their order, then the plane coder. Any arguments whatever are allowed:
 // a call that meets a "no" answers its number and the positions that it was given, and has written nothing.
-mod asks;
-
 ghost use mathlib.Core.Path.{_≡_};
 ghost use Rattle.slice.specs.Arguments.{eight, ten};
 ghost use Rattle.slice.specs.Calls.{encodePlane};
@@ -29,7 +27,7 @@ pub fn encode_plane8(
 ) -> CodeAnswer
     ensures { λ r. ⌜ answered r (now (dcs .exit)) (now (acs .exit)) ≡ encodePlane (settings eight preset shift) (plane place stride (now (rows .entry))) (buffers (now (dcs .entry)) (now (acs .entry))) (positions d a) ⌝ }
 {
-    let n = asks::plane_number(
+    let n = asks::coding_plane(
         preset,
         shift,
         place,
@@ -61,7 +59,7 @@ pub fn encode_plane10(
 ) -> CodeAnswer
     ensures { λ r. ⌜ answered r (now (dcs .exit)) (now (acs .exit)) ≡ encodePlane (settings ten preset shift) (plane place stride (now (rows .entry))) (buffers (now (dcs .entry)) (now (acs .entry))) (positions d a) ⌝ }
 {
-    let number = asks::plane_number(
+    let number = asks::coding_plane(
         preset,
         shift,
         place,

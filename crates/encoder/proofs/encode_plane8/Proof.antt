@@ -1,36 +1,39 @@
 -- `encoder::encode_plane8`.
 use borrow.Author.Needs.{needs}
-use mathlib.Core.Path.{_≡_, sym, _∙_}
+use mathlib.Core.Path.{_≡_, refl, sym, _∙_}
 use native.Mathlib.Omega.{arith}
 use Rattle.slice.specs.Arguments.{eight}
-use Rattle.encoder.proofs.Laws.{plane-ok, refused-is, accepted-is}
+use Rattle.asks.specs.ByNumbers.{planeCall}
+use Rattle.encoder.proofs.Laws.{number, refused-is, plane-ok, plane-is}
 use Rattle.encoder.proofs.encode_plane8.Statement.{statement}
 use Rattle.encoder.proofs.encode_plane8.Tie as tie
 
+-- the number is that of the call's first "no"
+asked : (c : tie.After-coding-plane) → let s = c .before .before .before .before .args in
+    c .coding-plane .result ≡ number (planeCall eight (s .preset) (s .shift) (s .place) (s .stride) (s .rows .now)) (s .dcs .now) (s .d) (s .acs .now) (s .a)
+asked c = c .coding-plane .ensures eight (c .before .before .before .before .args .rows .now) refl
+
 -- no question was answered "no"
-none : (c : tie.Else1) → c .before .plane-number .result ≡ 0
+none : (c : tie.Else1) → c .before .coding-plane .result ≡ 0
 none c = omega (arith, c .if1 .left)
 
 returns : tie.Need-returns
 returns c =
-    let n = c .before in
-    let s = n .before .before .before .before in
-    refused-is eight (s .args .preset) (s .args .shift) (s .args .place) (s .args .stride) (s .args .rows .now) (s .args .dcs .now) (s .args .d) (s .args .acs .now) (s .args .a) (n .plane-number .ensures) (c .if1 .taken)
+    let s = c .before .before .before .before .before .args in
+    refused-is (planeCall eight (s .preset) (s .shift) (s .place) (s .stride) (s .rows .now)) (s .dcs .now) (s .d) (s .acs .now) (s .a) (asked (c .before)) (c .if1 .taken)
 
 plane8-requires : tie.Need-plane8-requires
 plane8-requires c κs =
     let e = c .before .before in
-    let n = e .before in
-    let s = n .before .before .before .before in
-    plane-ok (s .args .preset) (s .args .shift) (s .args .place) (s .args .stride) (s .args .rows .now) (s .args .dcs .now) (s .args .d) (s .args .acs .now) (s .args .a) (sym (n .plane-number .ensures) ∙ none e)
+    let s = e .before .before .before .before .before .args in
+    plane-ok eight (s .preset) (s .shift) (s .place) (s .stride) (s .rows .now) (s .dcs .now) (s .d) (s .acs .now) (s .a) (sym (asked (e .before)) ∙ none e)
 
 returns-2 : tie.Need-returns-2
 returns-2 c =
     let p = c .before .before .before .before in
     let e = p .before .before .before in
-    let n = e .before in
-    let s = n .before .before .before .before in
-    accepted-is eight (s .args .preset) (s .args .shift) (s .args .place) (s .args .stride) (s .args .rows .now) (s .args .dcs .now) (s .args .d) (s .args .acs .now) (s .args .a) (n .plane-number .ensures) (none e) (p .plane8 .ensures)
+    let s = e .before .before .before .before .before .args in
+    plane-is eight (s .preset) (s .shift) (s .place) (s .stride) (s .rows .now) (s .dcs .now) (s .d) (s .acs .now) (s .a) (asked (e .before)) (none e) (p .plane8 .ensures)
 
 pub encode-plane8-spec : {M : Type 1} → statement M
 encode-plane8-spec =

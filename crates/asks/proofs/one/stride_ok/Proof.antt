@@ -1,7 +1,7 @@
--- `encoder::asks::stride_ok`.
+-- `asks::one::stride_ok`.
 use borrow.Author.Tests.{le-leb, lt-leb, eq-eqb, ne-eqb}
-use Rattle.encoder.proofs.asks.stride_ok.Statement.{statement}
-use Rattle.encoder.proofs.asks.stride_ok.Tie as tie
+use Rattle.asks.proofs.one.stride_ok.Statement.{statement}
+use Rattle.asks.proofs.one.stride_ok.Tie as tie
 
 returns : tie.Need-returns
 returns c = rw (ne-eqb _ _ (c .if1 .taken))
