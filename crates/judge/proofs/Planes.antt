@@ -4,13 +4,16 @@ use mathlib.Core.Bool.{Bool, true, false, _&&_}
 use mathlib.Core.List.{List, [], _∷_}
 use Prim.Native.Nat.{ℕ, zero, suc, _*_, _/_, _≤_, _<_}
 use native.Mathlib.Omega.{arith}
+use lib.Dec.{T}
 use lib.ListN.{take, getD}
-use lib.Seq.{take-nil}
+use lib.Seq.{take-nil, getD-take}
 use Rattle.bits.specs.Bits.{bitAt, bytesFor}
 use Rattle.slice.specs.Arguments.{Settings, Rows, Plane, oneSlice, planesOf, PerStream, Buffers}
 use Rattle.slice.specs.ReadPlane.{BlockRead, Blocks, badBlocks, blocks, readBlocks, DcSteps, badSteps, dcSteps, readSteps, bothStreams, readPlane}
 use Rattle.slice.specs.Plane.{blocksOf}
+use Rattle.slice.specs.Questions.{each, strideOk}
 use Rattle.slice.specs.Calls.{PlanesRead, badPlanes, planesRead, planeThen, byPlane, readPlanes}
+use Rattle.slice.proofs.Asked.{and-l, and-r, stride-le}
 use Rattle.preview.specs.Row.{dcEnd}
 use Rattle.report.specs.Report.{acEnd}
 use Rattle.blockread.specs.On.{goodPlane}
@@ -73,3 +76,15 @@ slice-strides σ (suc (suc (suc (suc n)))) a b c d = ap (λ (l : List ℕ). a .s
   where
     none : (n : ℕ) → strides (take n []) ≡ take n []
     none n = ap strides (take-nil n) ∙ sym (take-nil n)
+
+-- question 4 answered yes: no stride is above 7,680
+each-stride : (ps : List Plane) → T (each (λ p. strideOk (p .stride)) ps) → (k : ℕ) → getD (strides ps) k 0 ≤ 7680
+each-stride [] t k = omega arith
+each-stride (p ∷ ps) t zero = stride-le (p .stride) (and-l (strideOk (p .stride)) (each (λ p. strideOk (p .stride)) ps) t)
+each-stride (p ∷ ps) t (suc k) = each-stride ps (and-r (strideOk (p .stride)) (each (λ p. strideOk (p .stride)) ps) t) k
+
+pub slice-most : (σ : Settings) (n : ℕ) (a b c d : Rows) → T (each (λ p. strideOk (p .stride)) (planesOf (oneSlice σ n a b c d))) → (k : ℕ) → k < n
+    → getD (a .stride ∷ b .stride ∷ c .stride ∷ d .stride ∷ []) k 0 ≤ 7680
+slice-most σ n a b c d t k h =
+    let e = ap (λ (l : List ℕ). getD l k 0) (slice-strides σ n a b c d) ∙ getD-take n (a .stride ∷ b .stride ∷ c .stride ∷ d .stride ∷ []) k 0 h in
+    omega (arith, each-stride (planesOf (oneSlice σ n a b c d)) t k, e)
