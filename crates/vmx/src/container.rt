@@ -10,16 +10,18 @@ use layout::FrameAnswer;
 use layout::Kind;
 use layout::Layout;
 use layout::LayoutAnswer;
+use layout::RowAnswer;
 use layout::ViewAnswer;
 ghost use mathlib.Core.Path.{_≡_};
 ghost use Rattle.ask.specs.Ask.{numberIn};
-ghost use Rattle.layout.specs.Geometry.{Geometry, layoutOf, interlaceCapable, previewWidth, previewHeight};
+ghost use Rattle.layout.specs.Geometry.{Geometry, layoutOf, interlaceCapable, imageRowOf, previewWidth, previewHeight};
 ghost use Rattle.layout.specs.Frame.{FrameRead, parseOf, View, viewOf};
 ghost use Rattle.layout.specs.Views.{isAc};
+ghost use Rattle.tables.specs.Quality.{qualityPreset};
 ghost use Rattle.builder.specs.Build.{Built, headerOf, streamOf};
 ghost use Rattle.shown.specs.Shown.{timeOf};
 ghost use Rattle.vmx.specs.Outs.{left, isOn, flagOf};
-ghost use Rattle.vmx.specs.Frames.{stateOf, ShownAt, shownAt};
+ghost use Rattle.vmx.specs.Frames.{stateOf, ShownAt, shownAt, isImageRow, rowLeft};
 
 fn flag(b: bool) -> u32
     ensures { λ r. ⌜ r ≡ flagOf b ⌝ }
@@ -67,6 +69,30 @@ pub extern "C" fn vmx_interlace_capable(height: usize) -> u32
     ensures { λ r. ⌜ r ≡ flagOf (interlaceCapable height) ⌝ }
 {
     flag(layout::interlace_capable(height))
+}
+
+// Whether a coded row is a row of the image (1) or padding (0), and which one; of padding nothing is said.
+#[no_mangle]
+pub extern "C" fn vmx_image_row(height: usize, r: usize, interlaced: u32, row: &mut usize) -> u32
+    ensures { λ there. ⌜ (there ≡ flagOf (isImageRow (imageRowOf height r (isOn interlaced)))) × (now (row .exit) ≡ rowLeft (imageRowOf height r (isOn interlaced)) (now (row .entry))) ⌝ }
+{
+    match layout::image_row(height, r, 0 < interlaced) {
+        RowAnswer::Padding => 0,
+        RowAnswer::Row(i) => {
+            *row = i;
+            1
+        }
+    }
+}
+
+// The quality that is in force for a quality asked, and its preset.
+#[no_mangle]
+pub extern "C" fn vmx_quality_preset(quality: u8, kept: &mut u8, preset: &mut usize)
+    ensures { λ _. ⌜ (now (kept .exit) ≡ qualityPreset quality .quality) × (now (preset .exit) ≡ qualityPreset quality .index) ⌝ }
+{
+    let p = tables::quality::quality_preset(quality);
+    *kept = p.quality;
+    *preset = p.index;
 }
 
 // The width of the 1/8 preview.

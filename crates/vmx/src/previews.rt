@@ -1,0 +1,50 @@
+// The calls that read one stream of a plane: the preview out of its DC stream, the block report out of its AC stream.
+//
+// A call answers document 01's number, 0 where it is accepted. The position is left behind the plane's stream; a refused
+// call leaves it, and the bytes lent for the answer, as they were.
+ghost use mathlib.Core.Path.{_≡_};
+ghost use Rattle.slice.specs.Previews.{preview, blockReport};
+ghost use Rattle.vmx.specs.Planes.{previewedAs, reportedAs};
+
+// One byte a block, two output rows, from the plane's DC stream.
+#[no_mangle]
+pub extern "C" fn vmx_preview(
+    shift: u32,
+    place: u32,
+    stride: usize,
+    upper: &mut [u8],
+    lower: &mut [u8],
+    dc: &[u8],
+    dc_at: &mut usize,
+) -> u32
+    ensures { λ r. ⌜ previewedAs r (now («dc_at» .exit)) (now (upper .exit)) (now (lower .exit)) ≡ preview shift place stride (now (upper .entry)) (now (lower .entry)) (now (dc .entry)) (now («dc_at» .entry)) ⌝ }
+{
+    let d = *dc_at;
+    match preview::preview(shift, place, stride, upper, lower, dc, d) {
+        preview::PlaneEnd::Refused(n) => n,
+        preview::PlaneEnd::At(p) => {
+            *dc_at = p;
+            0
+        }
+    }
+}
+
+// One byte a block in coding order, 1 where no AC symbol is read for it, from the plane's AC stream.
+#[no_mangle]
+pub extern "C" fn vmx_block_report(
+    stride: usize,
+    report: &mut [u8],
+    ac: &[u8],
+    ac_at: &mut usize,
+) -> u32
+    ensures { λ r. ⌜ reportedAs r (now («ac_at» .exit)) (now (report .exit)) ≡ blockReport stride (now (report .entry)) (now (ac .entry)) (now («ac_at» .entry)) ⌝ }
+{
+    let a = *ac_at;
+    match report::block_report(stride, report, ac, a) {
+        report::PlaneEnd::Refused(n) => n,
+        report::PlaneEnd::At(q) => {
+            *ac_at = q;
+            0
+        }
+    }
+}
