@@ -1,4 +1,4 @@
-/* VMX frames: geometry, reading, building, what is shown.
+/* VMX planes, slice streams and frames.
  *
  * Link with libvmx.a (rt staticlib vmx). Every call is proved to give the answer that docs/PROMISES.md names, on every
  * argument; no call allocates, keeps a pointer or has state of its own.
@@ -9,7 +9,7 @@
  *
  * What the caller owes, as in any C library: a buffer (pointer, count) has so many elements (a count of 0 may come
  * with any pointer that is not null), each place for an answer can be read and written, and no place for an answer lies
- * in a buffer or is lent twice in one call. The buffer `out` of a builder call does not overlap the stream that is put.
+ * in a buffer or is lent twice in one call. A buffer that a call writes overlaps no other buffer of that call.
  */
 #ifndef VMX_H
 #define VMX_H
@@ -38,6 +38,44 @@ extern "C" {
 #define VMX_NO_LIMIT 13     /* stream within its limit? */
 #define VMX_NO_TURN 14      /* slice number below the count (shown rows: below 270), AC there when wanted, builder in turn? */
 
+/* ---- Planes
+ *
+ * A plane is 16 rows of `stride` samples, one row behind the other: rows_len is at least 16 * stride. Its place (0 to 3) is
+ * which plane of a picture it is. Samples are uint8_t at 8 bits; at 10 bits they are uint16_t, the ten bits on top.
+ *
+ * dc_at and ac_at, in: the byte at which the plane's stream begins in the buffer. Out, where the call is accepted: the
+ * byte behind it, so that the next plane goes on there. Refused: as they were. */
+
+/* Codes a plane into both buffers: the DC stream from *dc_at on, the AC stream from *ac_at on. preset is 0 to 24
+ * (vmx_quality_preset), shift (0 to 15) the DC shift of the frame. There must be room for stride bytes (DC) and
+ * 197 * stride / 4 bytes (AC) behind the positions; a stream is mostly shorter, and no other byte is changed.
+ * Number: 1 to 7. Refused: both buffers and both positions stay as they were. */
+uint32_t vmx_encode_plane8(const uint8_t *rows, size_t rows_len, size_t stride, size_t place, size_t preset,
+                           uint32_t shift, uint8_t *dc, size_t dc_len, size_t *dc_at, uint8_t *ac, size_t ac_len,
+                           size_t *ac_at);
+uint32_t vmx_encode_plane10(const uint16_t *rows, size_t rows_len, size_t stride, size_t place, size_t preset,
+                            uint32_t shift, uint8_t *dc, size_t dc_len, size_t *dc_at, uint8_t *ac, size_t ac_len,
+                            size_t *ac_at);
+
+/* The preview of a plane, one byte a block, from its DC stream alone: stride / 8 bytes into each of upper and lower (the
+ * upper and the lower eight rows); bytes behind them stay. The stream is read through before a byte is stored.
+ * Number: 2, 3, 4, 5, 7, 8. Refused: both outputs and *dc_at stay as they were. */
+uint32_t vmx_preview(uint32_t shift, uint32_t place, size_t stride, uint8_t *upper, size_t upper_len, uint8_t *lower,
+                     size_t lower_len, const uint8_t *dc, size_t dc_len, size_t *dc_at);
+
+/* The block report of a plane, from its AC stream alone: stride / 4 bytes, one a block in coding order (left to right,
+ * upper eight rows first), 1 where no AC symbol is read for the block, else 0; bytes behind them stay. The stream is
+ * read through before a byte is stored.
+ * Number: 4, 5, 7, 8. Refused: the output and *ac_at stay as they were. */
+uint32_t vmx_block_report(size_t stride, uint8_t *report, size_t report_len, const uint8_t *ac, size_t ac_len,
+                          size_t *ac_at);
+
+/* The quantiser preset of a quality 0 to 255, and the quality that is in force with it (for the frame's header). Below
+ * quality 36 there is none of its own: preset 0, and the quality as it is. Never refused. */
+void vmx_quality_preset(uint8_t quality, uint8_t *kept, size_t *preset);
+
+/* ---- Frames */
+
 /* The geometry of a frame size: height rounded up to whole slices of 16 rows, number of slices, strides in samples of
  * planes 0 and 3 (luma) and 1 and 2 (chroma), longest DC and AC stream of a slice in bytes.
  * Number: 9. */
@@ -46,6 +84,10 @@ uint32_t vmx_layout(size_t width, size_t height, size_t *aligned_height, size_t 
 
 /* 1 if a frame of this height is interlaced when its header says so (480, 576, 1080), else 0. */
 uint32_t vmx_interlace_capable(size_t height);
+
+/* The row of the image that a coded row holds: 1, and *row is set; 0 for a row of padding, and *row stays. interlaced is 0
+ * or any other number: then the upper half of the coded rows holds the even rows, the lower half the odd ones. */
+uint32_t vmx_image_row(size_t height, size_t r, uint32_t interlaced, size_t *row);
 
 /* The size of the 1/8 preview; interlaced is 0 or any other number. */
 size_t vmx_preview_width(size_t width);

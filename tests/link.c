@@ -1,4 +1,4 @@
-/* A C program linked with libvmx.a: builds a small frame, reads it back, and meets refusals. */
+/* A C program linked with libvmx.a: codes and previews planes, builds a small frame, reads it back, and meets refusals. */
 #include "vmx.h"
 
 #include <stdio.h>
@@ -27,6 +27,99 @@ static void geometry(void) {
     check(vmx_interlace_capable(1080) == 1 && vmx_interlace_capable(720) == 0, "interlace capable");
     check(vmx_preview_width(1920) == 240 && vmx_preview_height(1080, 0) == 135 && vmx_preview_height(1080, 1) == 134,
           "preview size");
+}
+
+/* An 8-bit plane at place 0, stride 8, preset 0, all samples alike: its streams, at the positions 2 and 1. */
+static void plane_of(uint8_t sample, uint32_t shift, const uint8_t *dc_want, size_t dc_n, const char *what) {
+    uint8_t rows[128], dc[16], ac[400], rest[400];
+    size_t d = 2, a = 1;
+    memset(rows, sample, sizeof rows);
+    memset(dc, 0xAA, sizeof dc);
+    memset(ac, 0xAA, sizeof ac);
+    memset(rest, 0xAA, sizeof rest);
+    check(vmx_encode_plane8(rows, sizeof rows, 8, 0, 0, shift, dc, sizeof dc, &d, ac, sizeof ac, &a) == VMX_OK, what);
+    check(d == 2 + dc_n && a == 3, "where the streams end");
+    check(memcmp(dc + 2, dc_want, dc_n) == 0 && ac[1] == 0x80 && ac[2] == 0x80, "the streams");
+    check(memcmp(dc, rest, 2) == 0 && memcmp(dc + d, rest, sizeof dc - d) == 0, "all other DC bytes");
+    check(memcmp(ac, rest, 1) == 0 && memcmp(ac + a, rest, sizeof ac - a) == 0, "all other AC bytes");
+}
+
+static void planes(void) {
+    static const uint8_t grey[] = {0xF0}, white[] = {0x00, 0x3F, 0x8E}, black[] = {0x00, 0x10, 0x01, 0x80},
+                         shifted[] = {0x01, 0xFF, 0x80};
+    uint8_t rows[128], dc[16], ac[400], rest[400];
+    uint16_t wide[128];
+    size_t d = 0, a = 0, i;
+    plane_of(128, 0, grey, sizeof grey, "all 128");
+    plane_of(255, 0, white, sizeof white, "all 255");
+    plane_of(0, 0, black, sizeof black, "all 0");
+    plane_of(255, 3, shifted, sizeof shifted, "all 255, shift 3");
+
+    memset(rows, 128, sizeof rows);
+    memset(dc, 0xAA, sizeof dc);
+    memset(ac, 0xAA, sizeof ac);
+    memset(rest, 0xAA, sizeof rest);
+    check(vmx_encode_plane8(rows, sizeof rows, 8, 0, 25, 0, dc, sizeof dc, &d, ac, sizeof ac, &a) == VMX_NO_PRESET,
+          "preset 25");
+    check(vmx_encode_plane8(rows, sizeof rows, 8, 0, 0, 16, dc, sizeof dc, &d, ac, sizeof ac, &a) == VMX_NO_SHIFT,
+          "shift 16");
+    check(vmx_encode_plane8(rows, sizeof rows, 8, 4, 0, 0, dc, sizeof dc, &d, ac, sizeof ac, &a) == VMX_NO_PLANE,
+          "place 4");
+    check(vmx_encode_plane8(rows, sizeof rows, 12, 0, 0, 0, dc, sizeof dc, &d, ac, sizeof ac, &a) == VMX_NO_STRIDE,
+          "stride 12");
+    check(vmx_encode_plane8(rows, 127, 8, 0, 0, 0, dc, sizeof dc, &d, ac, sizeof ac, &a) == VMX_NO_ROWS, "127 samples");
+    check(d == 0 && a == 0, "positions kept on refusal");
+    d = 9;
+    a = 7;
+    check(vmx_encode_plane8(rows, sizeof rows, 8, 0, 0, 0, dc, sizeof dc, &d, ac, sizeof ac, &a) == VMX_NO_ROOM,
+          "no room for DC");
+    check(d == 9 && a == 7, "positions kept on refusal");
+    check(memcmp(dc, rest, sizeof dc) == 0 && memcmp(ac, rest, sizeof ac) == 0, "nothing written");
+
+    for (i = 0; i < 128; i++) {
+        wide[i] = (uint16_t)(512 << 6);
+    }
+    d = a = 0;
+    check(vmx_encode_plane10(wide, 128, 8, 0, 0, 0, dc, sizeof dc, &d, ac, sizeof ac, &a) == VMX_OK, "10 bits, all 512");
+    check(d == 1 && dc[0] == 0xF0 && a == 2 && ac[0] == 0x80 && ac[1] == 0x80, "its streams");
+}
+
+static void previews(void) {
+    /* DC 1020 is 0 here, DC 1016 is 255; both behind a byte of something else */
+    static const uint8_t dc[] = {0x55, 0x00, 0x3F, 0xCE, 0x00, 0x3F, 0x8E}, bad[] = {0, 0, 0, 0, 0, 0, 0},
+                         ac[] = {0x80, 0x80};
+    uint8_t upper[2] = {7, 7}, lower[2] = {7, 7}, report[3] = {7, 7, 7};
+    size_t at = 1;
+    check(vmx_preview(0, 0, 8, upper, 2, lower, 2, dc, sizeof dc, &at) == VMX_OK, "preview");
+    check(at == 4 && upper[0] == 0 && lower[0] == 0 && upper[1] == 7 && lower[1] == 7, "DC 1020 is not clamped");
+    check(vmx_preview(0, 0, 8, upper, 2, lower, 2, dc, sizeof dc, &at) == VMX_OK, "preview of the next plane");
+    check(at == 7 && upper[0] == 255 && lower[0] == 255, "DC 1016");
+    at = 0;
+    check(vmx_preview(0, 0, 8, upper, 2, lower, 2, bad, sizeof bad, &at) == VMX_NO_CODE, "a bad code");
+    check(vmx_preview(0, 0, 8, upper, 2, lower, 0, dc, sizeof dc, &at) == VMX_NO_ROWS, "no room for the lower row");
+    check(at == 0 && upper[0] == 255 && lower[0] == 255, "nothing changed on refusal");
+
+    check(vmx_block_report(8, report, 3, ac, sizeof ac, &at) == VMX_OK, "block report");
+    check(at == 2 && report[0] == 0 && report[1] == 1 && report[2] == 7, "one run for both blocks");
+    at = 0;
+    check(vmx_block_report(8, report, 1, ac, sizeof ac, &at) == VMX_NO_ROWS, "no room for two bytes");
+    check(vmx_block_report(8, report, 3, bad, sizeof bad, &at) == VMX_NO_CODE, "a bad code");
+    check(at == 0 && report[0] == 0 && report[1] == 1, "nothing changed on refusal");
+}
+
+static void presets_and_rows(void) {
+    uint8_t kept = 0;
+    size_t preset = 99, row = 99;
+    vmx_quality_preset(36, &kept, &preset);
+    check(kept == 36 && preset == 24, "quality 36");
+    vmx_quality_preset(35, &kept, &preset);
+    check(kept == 35 && preset == 0, "quality 35");
+    vmx_quality_preset(100, &kept, &preset);
+    check(kept == 99 && preset == 0, "quality 100");
+    check(vmx_image_row(1080, 1, 0, &row) == 1 && row == 1, "row 1 of a progressive image");
+    check(vmx_image_row(1080, 1, 1, &row) == 1 && row == 2, "row 1 of the top field");
+    check(vmx_image_row(1080, 544, 1, &row) == 1 && row == 1, "the first row of the bottom field");
+    check(vmx_image_row(1080, 1080, 0, &row) == 0 && row == 1, "padding");
 }
 
 static void frame(void) {
@@ -84,6 +177,9 @@ static void shown(void) {
 }
 
 int main(void) {
+    planes();
+    previews();
+    presets_and_rows();
     geometry();
     frame();
     shown();

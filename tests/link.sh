@@ -1,5 +1,5 @@
 #!/usr/bin/env bash
-# Links a C program, and the same as C++, with the static library and runs it.
+# Links a C program, the same as C++, and a Rust program with the static library and runs them.
 set -euo pipefail
 cd "$(dirname "$0")/.."
 rt staticlib vmx
@@ -10,3 +10,5 @@ if command -v g++ >/dev/null; then
     g++ -Wall -Wextra -Werror -Iinclude -x c++ tests/link.c -x none target/staticlib/libvmx.a -o target/link/cpp
     target/link/cpp
 fi
+rustc -O --edition 2024 -L target/staticlib tests/link.rs -o target/link/rust
+target/link/rust
