@@ -1,5 +1,7 @@
 -- `painted::paint8`: a law for each branch.
 use borrow.Author.Needs.{needs, sfits-of}
+use mathlib.Core.Bool.{true, false}
+use mathlib.Core.Path.{_≡_}
 use mir.Facts.{toZ-ofZ}
 use Rattle.painted.proofs.Joined.{flat, block8}
 use Rattle.painted.proofs.paint8.Statement.{statement}
@@ -10,7 +12,8 @@ returns c =
     let u = c .before .before in
     let t = u .before .before in
     let s = t .before .before in
-    rw (t .if1 .taken)
+    let e : s .args .has-ac ≡ true = t .if1 .taken in
+    rw e
     (block8 (s .args .stride) (s .args .preset) (s .args .level) (s .args .t3) (s .args .rows .now) (s .good .1 .1 .0 .1 .0 .1)
     (rw (toZ-ofZ (s .fits .level)) at (u .idct8 .ensures)))
 
@@ -20,7 +23,8 @@ returns-2 c =
     let d = u .before .before in
     let t = d .before in
     let s = t .before .before in
-    rw (t .if1 .left)
+    let e : s .args .has-ac ≡ false = t .if1 .left in
+    rw e
     (flat (s .args .stride) (s .args .preset) (s .args .level) (s .args .t3) (s .args .rows .now) (toZ-ofZ (sfits-of (d .dc .given)))
     (rw (toZ-ofZ (s .fits .level)) at (u .broadcast-dc8 .ensures)))
 
