@@ -1,20 +1,21 @@
 -- The answers of the coding calls from their numbers.
 use mathlib.Core.Path.{_≡_, refl, sym, ap, _∙_}
-use mathlib.Core.List.{List, append-nil}
+use mathlib.Core.List.{List, [], _∷_, append-nil}
 use Prim.Native.Nat.{ℕ, zero, suc, _+_, _<_}
 use native.Mathlib.Omega.{arith}
 use lib.ListN.{length}
 use Rattle.bits.specs.Lay.{lay}
 use Rattle.ask.specs.Ask.{firstNo}
-use Rattle.slice.specs.Arguments.{Depth, Call, settingsOf, planesOf}
+use Rattle.slice.specs.Arguments.{Depth, Plane, Call, settingsOf, planesOf}
 use Rattle.slice.specs.Streams.{dcStream, acStream}
 use Rattle.slice.specs.Plane.{coefficients}
 use Rattle.slice.specs.Questions.{codingQuestions}
 use Rattle.slice.specs.Calls.{lengthsOf, ownStreams, encode, encodePlane}
-use Rattle.asks.specs.ByNumbers.{planeCall}
-use Rattle.asks.proofs.Passed.{coding-legal}
+use Rattle.asks.specs.ByNumbers.{planeCall, sliceCall}
+use Rattle.asks.proofs.Passed.{LegalPlane, Every, coding-legal}
 use Rattle.planebits.specs.declared.Ends.{Ends}
 use Rattle.encplane.specs.Coding.{settings, plane, PlaneOk, PlaneDone}
+use Rattle.encslice.specs.SliceCoding.{rows, AllRowsLeft, SliceOk, SliceDone}
 use Rattle.encoder.specs.Answers.{buffers, positions}
 
 -- ---- any call
@@ -63,3 +64,35 @@ module _ (depth : Depth) (preset shift place stride : ℕ) (rows dcs : List ℕ)
       (p .dc-end ∙ ap (λ (l : List ℕ). d + length l) (sym nd))
       (p .ac-bytes ∙ ap (lay acs a) (sym na))
       (p .ac-end ∙ ap (λ (l : List ℕ). a + length l) (sym na))
+
+-- ---- a slice
+all-left : (ps : List Plane) → Every LegalPlane ps → AllRowsLeft ps
+all-left [] k = tt
+all-left (p ∷ ps) k =
+    (record { eights = k .0 .stride-legal .eights; stride-le = k .0 .stride-legal .le; rows-long = k .0 .rows-long }, all-left ps (k .1))
+
+module _ (depth : Depth) (preset shift count s0 : ℕ) (p0 : List ℕ) (s1 : ℕ) (p1 : List ℕ) (s2 : ℕ) (p2 : List ℕ) (s3 : ℕ) (p3 : List ℕ)
+    (dcs : List ℕ) (d : ℕ) (acs : List ℕ) (a : ℕ) where
+  abbrev call : Call
+  call = sliceCall depth preset shift count s0 p0 s1 p1 s2 p2 s3 p3
+
+  pub slice-ok : number call dcs d acs a ≡ 0 → SliceOk (settings depth preset shift) count (rows s0 p0) (rows s1 p1) (rows s2 p2) (rows s3 p3) dcs d acs a
+  slice-ok e =
+      let k = coding-legal call (lengthsOf (buffers dcs acs)) (positions d a) e in
+      record {
+        one-or-more = k .legal .which .0;
+        four-or-less = k .legal .which .1;
+        planes-ok =
+            record {
+              preset-le = k .legal .preset-le;
+              shift-le = k .legal .shift-le;
+              all-rows = all-left (planesOf call) (k .legal .planes);
+              dc-room = k .dc-room;
+              ac-room = k .ac-room;
+            };
+      }
+
+  pub slice-is : {n : ℕ} {r : Ends} {dcs' acs' : List ℕ} → n ≡ number call dcs d acs a → n ≡ 0
+      → SliceDone (settings depth preset shift) count (rows s0 p0) (rows s1 p1) (rows s2 p2) (rows s3 p3) dcs d acs a r dcs' acs'
+      → record { number = 0; at = positions (r .dc) (r .ac); buffers = buffers dcs' acs' } ≡ encode call (buffers dcs acs) (positions d a)
+  slice-is e h p = accepted-is call dcs d acs a e h (p .dc-bytes) (p .dc-end) (p .ac-bytes) (p .ac-end)

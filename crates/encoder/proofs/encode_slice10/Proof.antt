@@ -1,0 +1,49 @@
+-- `encoder::encode_slice10`.
+use borrow.Author.Needs.{needs}
+use mathlib.Core.Path.{_≡_, refl, sym, _∙_}
+use native.Mathlib.Omega.{arith}
+use Rattle.slice.specs.Arguments.{ten}
+use Rattle.asks.specs.ByNumbers.{sliceCall}
+use Rattle.encoder.proofs.Laws.{number, refused-is, slice-ok, slice-is}
+use Rattle.encoder.proofs.encode_slice10.Statement.{statement}
+use Rattle.encoder.proofs.encode_slice10.Tie as tie
+
+-- the number is that of the call's first "no"
+asked : (c : tie.After-coding-slice) → let s = c .before .before .before .before .before .before .before .args in
+    c .coding-slice .result ≡ number (sliceCall ten (s .preset) (s .shift) (s .count) (s .stride0) (s .p0 .now) (s .stride1) (s .p1 .now) (s .stride2) (s .p2 .now) (s .stride3) (s .p3 .now)) (s .dcs .now) (s .d) (s .acs .now) (s .a)
+asked c =
+    let s = c .before .before .before .before .before .before .before .args in
+    c .coding-slice .ensures ten (s .p0 .now) (s .p1 .now) (s .p2 .now) (s .p3 .now) refl refl refl refl
+
+-- no question was answered "no"
+none : (c : tie.Else1) → c .before .coding-slice .result ≡ 0
+none c = omega (arith, c .if1 .left)
+
+returns : tie.Need-returns
+returns c =
+    let s = c .before .before .before .before .before .before .before .before .args in
+    refused-is (sliceCall ten (s .preset) (s .shift) (s .count) (s .stride0) (s .p0 .now) (s .stride1) (s .p1 .now) (s .stride2) (s .p2 .now) (s .stride3) (s .p3 .now)) (s .dcs .now) (s .d) (s .acs .now) (s .a) (asked (c .before)) (c .if1 .taken)
+
+slice10-requires : tie.Need-slice10-requires
+slice10-requires c κs =
+    let e = c .before .before in
+    let s = e .before .before .before .before .before .before .before .before .args in
+    slice-ok ten (s .preset) (s .shift) (s .count) (s .stride0) (s .p0 .now) (s .stride1) (s .p1 .now) (s .stride2) (s .p2 .now) (s .stride3) (s .p3 .now) (s .dcs .now) (s .d) (s .acs .now) (s .a) (sym (asked (e .before)) ∙ none e)
+
+returns-2 : tie.Need-returns-2
+returns-2 c =
+    let p = c .before .before .before .before in
+    let e = p .before .before .before in
+    let s = e .before .before .before .before .before .before .before .before .args in
+    slice-is ten (s .preset) (s .shift) (s .count) (s .stride0) (s .p0 .now) (s .stride1) (s .p1 .now) (s .stride2) (s .p2 .now) (s .stride3) (s .p3 .now) (s .dcs .now) (s .d) (s .acs .now) (s .a) (asked (e .before)) (none e) (p .slice10 .ensures)
+
+pub encode-slice10-spec : {M : Type 1} → statement M
+encode-slice10-spec =
+    tie.close
+    (tie.spec
+    (λ c κs. search needs)
+    returns
+    slice10-requires
+    (λ c. search needs)
+    (λ c. search needs)
+    returns-2)
