@@ -1,6 +1,6 @@
 // The questions 1 to 7 to calls on planes and slices, over numbers: each call's first "no", 0 where there is none.
 // Rows and streams are named by their lengths. Any numbers whatever are allowed; no sum or product overflows.
-mod four;
+pub mod four;
 pub mod one;
 mod order;
 

@@ -1,0 +1,8 @@
+-- What an answer of the size calls says: document 01's number, and the lengths.
+use Rattle.slice.specs.Previews.{Sized, nothing}
+use Rattle.sizes.specs.declared.SizeAnswer.{SizeAnswer}
+use Rattle.sizes.specs.declared.SizeAnswer.the-variants as answer
+
+abbrev pub sizeSays : SizeAnswer → Sized
+sizeSays (answer.Refused n) = record { number = n; lengths = nothing }
+sizeSays (answer.Sized d a) = record { number = 0; lengths = record { dc = d; ac = a } }
