@@ -84,6 +84,36 @@ static void planes(void) {
     check(d == 1 && dc[0] == 0xF0 && a == 2 && ac[0] == 0x80 && ac[1] == 0x80, "its streams");
 }
 
+/* Planes 0 and 1, each all zeros behind its level: their streams, one behind the other. */
+static void slices(void) {
+    static const uint8_t dc_want[] = {0xF0, 0xF0}, ac_want[] = {0x80, 0x80, 0x80, 0x80};
+    uint8_t p0[128], p1[128], none[1] = {0}, dc[16], ac[788];
+    uint16_t w0[128], w1[128], wide_none[1] = {0};
+    size_t d = 0, a = 0, i;
+    memset(p0, 128, sizeof p0);
+    memset(p1, 0, sizeof p1);
+    for (i = 0; i < 128; i++) {
+        w0[i] = (uint16_t)(512 << 6);
+        w1[i] = 0;
+    }
+    check(vmx_encode_slice8(p0, 128, 8, p1, 128, 8, none, 0, 0, none, 0, 0, 5, 0, 0, dc, 16, &d, ac, 788, &a) == VMX_NO_PLANE,
+          "five planes");
+    check(vmx_encode_slice8(p0, 128, 8, p1, 127, 8, none, 0, 0, none, 0, 0, 2, 0, 0, dc, 16, &d, ac, 788, &a) == VMX_NO_ROWS,
+          "plane 1 too short");
+    check(vmx_encode_slice8(p0, 128, 8, p1, 128, 8, none, 0, 0, none, 0, 0, 2, 0, 0, dc, 15, &d, ac, 788, &a) == VMX_NO_ROOM,
+          "a byte short");
+    check(d == 0 && a == 0, "positions kept on refusal");
+    check(vmx_encode_slice8(p0, 128, 8, p1, 128, 8, none, 0, 0, none, 0, 0, 2, 0, 0, dc, 16, &d, ac, 788, &a) == VMX_OK,
+          "two planes");
+    check(d == 2 && a == 4 && memcmp(dc, dc_want, 2) == 0 && memcmp(ac, ac_want, 4) == 0, "their streams");
+    d = a = 0;
+    memset(dc, 0, sizeof dc);
+    check(vmx_encode_slice10(w0, 128, 8, w1, 128, 8, wide_none, 0, 0, wide_none, 0, 0, 2, 0, 0, dc, 16, &d, ac, 788, &a)
+              == VMX_OK,
+          "two planes of 10 bits");
+    check(d == 2 && a == 4 && memcmp(dc, dc_want, 2) == 0 && memcmp(ac, ac_want, 4) == 0, "their streams");
+}
+
 static void previews(void) {
     /* DC 1020 is 0 here, DC 1016 is 255; both behind a byte of something else */
     static const uint8_t dc[] = {0x55, 0x00, 0x3F, 0xCE, 0x00, 0x3F, 0x8E}, bad[] = {0, 0, 0, 0, 0, 0, 0},
@@ -178,6 +208,7 @@ static void shown(void) {
 
 int main(void) {
     planes();
+    slices();
     previews();
     presets_and_rows();
     geometry();

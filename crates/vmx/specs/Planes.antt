@@ -1,8 +1,7 @@
 -- The answers of the calls on planes and slices, out of what a call returns and of what it leaves in the places and buffers that it is
 -- lent. Document 01: "A refusal yields the number, the start positions ..; lent memory is unchanged." The number 0 says accepted.
-use mathlib.Core.List.{List, [], _∷_}
+use mathlib.Core.List.{List}
 use Prim.Native.Nat.{ℕ}
-use Rattle.slice.specs.Arguments.{Rows}
 use Rattle.slice.specs.Calls.{Coded, Decoded}
 use Rattle.slice.specs.Previews.{Previewed, Reported, Sized}
 use Rattle.encoder.specs.Answers.{buffers, positions}
@@ -11,17 +10,9 @@ use Rattle.encoder.specs.Answers.{buffers, positions}
 abbrev pub codedAs : ℕ → ℕ → ℕ → List ℕ → List ℕ → Coded
 codedAs n d a dcs acs = record { number = n; at = positions d a; buffers = buffers dcs acs }
 
--- a reading call on one plane: number, both positions, the rows
-abbrev pub planeDecodedAs : ℕ → ℕ → ℕ → List ℕ → Decoded
-planeDecodedAs n d a rows = record { number = n; at = positions d a; rows = rows ∷ [] }
-
--- on a slice: the rows of all four planes lent
-abbrev pub sliceDecodedAs : ℕ → ℕ → ℕ → List ℕ → List ℕ → List ℕ → List ℕ → Decoded
-sliceDecodedAs n d a rows0 rows1 rows2 rows3 = record { number = n; at = positions d a; rows = rows0 ∷ rows1 ∷ rows2 ∷ rows3 ∷ [] }
-
--- rows lent for one plane of a slice
-abbrev pub rowsAt : ℕ → List ℕ → Rows
-rowsAt stride samples = record { stride = stride; samples = samples }
+-- a reading call: number, both positions, the rows of each plane lent
+abbrev pub decodedAs : ℕ → ℕ → ℕ → List (List ℕ) → Decoded
+decodedAs n d a rows = record { number = n; at = positions d a; rows = rows }
 
 -- a preview: number, position, both output rows
 abbrev pub previewedAs : ℕ → ℕ → List ℕ → List ℕ → Previewed
