@@ -96,7 +96,7 @@ pub extern "C" fn vmx_encode_slice8(
 {
     let d = *dc_at;
     let a = *ac_at;
-    let r = encoder::encode_slice8(
+    let coded = encoder::encode_slice8(
         p0,
         stride0,
         p1,
@@ -113,7 +113,7 @@ pub extern "C" fn vmx_encode_slice8(
         ac,
         a,
     );
-    hand_back(r, dc_at, ac_at)
+    hand_back(coded, dc_at, ac_at)
 }
 
 // Codes the first `count` of four 10-bit planes, places 0 to 3, one behind the other.
@@ -139,7 +139,7 @@ pub extern "C" fn vmx_encode_slice10(
 {
     let d = *dc_at;
     let a = *ac_at;
-    let r = encoder::encode_slice10(
+    let answer = encoder::encode_slice10(
         p0,
         stride0,
         p1,
@@ -156,5 +156,5 @@ pub extern "C" fn vmx_encode_slice10(
         ac,
         a,
     );
-    hand_back(r, dc_at, ac_at)
+    hand_back(answer, dc_at, ac_at)
 }
