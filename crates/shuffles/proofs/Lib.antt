@@ -1,3 +1,4 @@
 pub mod Places
 pub mod Mask
+pub mod Weights
 pub mod Examples

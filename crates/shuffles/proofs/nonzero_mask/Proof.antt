@@ -1,54 +1,45 @@
-use borrow.Author.Needs.{needs, sfits-of}
-use mathlib.Core.Path.{_≡_, ap, _∙_}
-use Prim.Native.Nat.{_≤_, _-_}
+-- `shuffles::nonzero_mask`.
+use borrow.Author.Needs.{needs}
+use mathlib.Core.Path.{_≡_, sym, subst}
 use native.Mathlib.Omega.{arith}
-use lib.ListN.{length, drop}
-use mir.Facts.{toZ-ofZ}
-use Rattle.shuffles.specs.Shuffles.{nonzeroMask, flag}
-use Rattle.shuffles.proofs.Mask.{flag-le, mask-start, mask-fits, mask-next, mask-done}
-use Rattle.scalar.specs.Tab.{lane}
+use lib.ListN.{length}
+use Rattle.shuffles.specs.Shuffles.{Light}
+use Rattle.shuffles.proofs.Weights.{light, by-halves}
 use Rattle.shuffles.proofs.nonzero_mask.Statement.{statement}
 use Rattle.shuffles.proofs.nonzero_mask.Tie as tie
 
-abbrev Inv-loop : tie.InvT-loop
-Inv-loop zz m₀ i₀ m i = (i ≤ 64) × (m ≡ nonzeroMask (drop (64 - i) zz))
-
-abbrev μ-loop : tie.MeasureT-loop
-μ-loop zz m₀ i₀ m i = 64 - i
-
-sized : (c : tie.Start Inv-loop μ-loop) → length (c .args .t1) ≡ 64
+sized : (c : tie.Start) → length (c .args .zz) ≡ 64
 sized c = search needs
 
-loop-holds : tie.Need-loop-holds Inv-loop μ-loop
-loop-holds c = (omega arith, mask-start (c .args .t1) (sized c))
+known : (c : tie.After-weigh-all) → Light (c .weigh-all .result)
+known c = subst Light (sym (c .weigh-all .ensures)) (light (c .before .args .zz))
 
-mul-m : tie.Need-mul-m Inv-loop μ-loop
-mul-m c =
-    let l = c .before in
-    let h = mask-fits (l .before .args .t1) (l .loop .i) (sized (l .before)) (omega arith) in
-    record { fits = omega (arith, h) }
+half-requires : tie.Need-half-requires
+half-requires c κs = (omega arith, omega arith, known (c .before))
 
--- the flag that the turn adds
-known : (c : tie.After-flag Inv-loop μ-loop) → c .flag .result ≡ flag (lane (c .before .before .before .before .args .t1) (63 - c .before .before .before .loop .i))
-known c = c .flag .ensures ∙ ap flag (toZ-ofZ (sfits-of (c .before .flag-arg .given)))
+half-requires-2 : tie.Need-half-requires-2
+half-requires-2 c κs = (omega arith, omega arith, known (c .before .before .before))
 
-add-m : tie.Need-add-m Inv-loop μ-loop
-add-m c =
-    let l = c .before .before .before in
-    let h = mask-fits (l .before .args .t1) (l .loop .i) (sized (l .before)) (omega arith) in
-    record { fits = omega (arith, h, known c, flag-le (lane (l .before .args .t1) (63 - l .loop .i))) }
+mul-result : tie.Need-mul-result
+mul-result c = record { fits = omega (arith, c .half2 .ok) }
 
-loop-again : tie.Need-loop-again Inv-loop μ-loop
-loop-again c =
-    let l = c .before .before .before in
-    (omega arith, mask-next (l .before .args .t1) (l .loop .i) (sized (l .before)) (omega arith) (l .loop .inv .1) (known c))
+add-result : tie.Need-add-result
+add-result c = record { fits = omega (arith, c .half2 .ok, c .before .before .half .ok) }
 
-returns : tie.Need-returns Inv-loop μ-loop
+returns : tie.Need-returns
 returns c =
-    let l = c .before in
-    mask-done (l .before .args .t1) (l .loop .i) (omega arith) (l .loop .inv .1)
+    let w = c .before .before .before .before in
+    by-halves (w .before .args .zz) (sized (w .before)) (w .weigh-all .ensures) (c .before .before .half .ensures) (c .half2 .ensures)
 
 pub nonzero-mask-spec : {M : Type 1} → statement M
 nonzero-mask-spec =
     tie.close
-    (tie.spec Inv-loop μ-loop loop-holds mul-m (λ c. omega arith) (λ c. omega arith) (λ c. omega arith) (λ c κs. tt) add-m (λ c. omega arith) (λ c. omega arith) loop-again returns)
+    (tie.spec
+    (λ c κs. search needs)
+    half-requires
+    (λ c. search needs)
+    half-requires-2
+    (λ c. search needs)
+    mul-result
+    add-result
+    returns)
