@@ -47,8 +47,8 @@ extern "C" {
  * byte behind it, so that the next plane goes on there. Refused: as they were. */
 
 /* Codes a plane into both buffers: the DC stream from *dc_at on, the AC stream from *ac_at on. preset is 0 to 24
- * (vmx_quality_preset), shift (0 to 15) the DC shift of the frame. There must be room for 4 bytes a block (DC) and 197
- * bytes a block (AC) behind the positions; a stream is mostly shorter, and no other byte is changed.
+ * (vmx_quality_preset), shift (0 to 15) the DC shift of the frame. There must be room for vmx_plane_size's lengths behind
+ * the positions; a stream is mostly shorter, and no other byte is changed.
  * Number: 1 to 7. Refused: both buffers and both positions stay as they were. */
 uint32_t vmx_encode_plane8(const uint8_t *rows, size_t rows_len, size_t stride, size_t place, size_t preset,
                            uint32_t shift, uint8_t *dc, size_t dc_len, size_t *dc_at, uint8_t *ac, size_t ac_len,
@@ -58,7 +58,7 @@ uint32_t vmx_encode_plane10(const uint16_t *rows, size_t rows_len, size_t stride
                             size_t *ac_at);
 
 /* Codes the first `count` (1 to 4) of four planes, at places 0 to 3, their streams one behind the other. A question is put
- * over all these planes before the next one; there must be room for all of them. Planes from `count` on are
+ * over all these planes before the next one; there must be room for vmx_slice_size's lengths. Planes from `count` on are
  * neither asked about nor read: their length may be 0.
  * Number: 1 to 7. Refused: both buffers and both positions stay as they were. */
 uint32_t vmx_encode_slice8(const uint8_t *p0, size_t p0_len, size_t stride0, const uint8_t *p1, size_t p1_len,
@@ -69,6 +69,13 @@ uint32_t vmx_encode_slice10(const uint16_t *p0, size_t p0_len, size_t stride0, c
                             size_t stride1, const uint16_t *p2, size_t p2_len, size_t stride2, const uint16_t *p3,
                             size_t p3_len, size_t stride3, size_t count, size_t preset, uint32_t shift, uint8_t *dc,
                             size_t dc_len, size_t *dc_at, uint8_t *ac, size_t ac_len, size_t *ac_at);
+
+/* Lengths in bytes that the streams of a plane, or of the first `count` of four planes together, are at most: 4 bytes a
+ * block (DC) and 197 bytes a block (AC).
+ * Number: 4 (a plane); 3, 4 (a slice). Refused: both lengths are 0. */
+uint32_t vmx_plane_size(size_t stride, size_t *dc_len, size_t *ac_len);
+uint32_t vmx_slice_size(size_t count, size_t stride0, size_t stride1, size_t stride2, size_t stride3, size_t *dc_len,
+                        size_t *ac_len);
 
 /* The preview of a plane, one byte a block, from its DC stream alone: stride / 8 bytes into each of upper and lower (the
  * upper and the lower eight rows); bytes behind them stay. The stream is read through before a byte is stored.

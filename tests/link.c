@@ -89,13 +89,18 @@ static void slices(void) {
     static const uint8_t dc_want[] = {0xF0, 0xF0}, ac_want[] = {0x80, 0x80, 0x80, 0x80};
     uint8_t p0[128], p1[128], none[1] = {0}, dc[16], ac[788];
     uint16_t w0[128], w1[128], wide_none[1] = {0};
-    size_t d = 0, a = 0, i;
+    size_t d = 0, a = 0, i, dc_len = 7, ac_len = 7;
     memset(p0, 128, sizeof p0);
     memset(p1, 0, sizeof p1);
     for (i = 0; i < 128; i++) {
         w0[i] = (uint16_t)(512 << 6);
         w1[i] = 0;
     }
+    check(vmx_slice_size(2, 8, 8, 0, 0, &dc_len, &ac_len) == VMX_OK && dc_len == 16 && ac_len == 788, "size of two planes");
+    check(vmx_plane_size(8, &dc_len, &ac_len) == VMX_OK && dc_len == 8 && ac_len == 394, "size of a plane");
+    check(vmx_plane_size(12, &dc_len, &ac_len) == VMX_NO_STRIDE && dc_len == 0 && ac_len == 0, "no size");
+    check(vmx_slice_size(5, 8, 8, 8, 8, &dc_len, &ac_len) == VMX_NO_PLANE, "no slice of five planes");
+
     check(vmx_encode_slice8(p0, 128, 8, p1, 128, 8, none, 0, 0, none, 0, 0, 5, 0, 0, dc, 16, &d, ac, 788, &a) == VMX_NO_PLANE,
           "five planes");
     check(vmx_encode_slice8(p0, 128, 8, p1, 127, 8, none, 0, 0, none, 0, 0, 2, 0, 0, dc, 16, &d, ac, 788, &a) == VMX_NO_ROWS,

@@ -2,3 +2,4 @@
 pub mod coding;
 pub mod container;
 pub mod previews;
+pub mod room;
