@@ -1,7 +1,25 @@
 // What the programs that replay the Rust's answers share (oracle/ANSWERS.md): numbers out of a record, counts, the report.
 
+ghost use Prim.Native.Nat.{_<_};
+
 fn unsigned(b: u8) -> u16 {
     b as u16
+}
+
+// A number that a record stores in one byte, or two, as a size.
+pub fn wide(b: u8) -> usize {
+    b as usize
+}
+
+fn wide16(x: u16) -> usize
+    ensures { λ r. ⌜ r < 65536 ⌝ }
+{
+    x as usize
+}
+
+// A refusal's number.
+pub fn refusal(b: u8) -> u32 {
+    b as u32
 }
 
 // The number of two bytes, the low one first; 0 past the record's end.
@@ -13,6 +31,23 @@ pub fn number(b: &[u8], at: usize) -> u16 {
         return 0;
     }
     unsigned(b[at]) | (unsigned(b[at + 1]) << 8)
+}
+
+// The same as a size.
+pub fn size(b: &[u8], at: usize) -> usize
+    ensures { λ r. ⌜ r < 65536 ⌝ }
+{
+    wide16(number(b, at))
+}
+
+// A position: eight bytes.
+pub fn position(b: &[u8], at: usize) -> usize {
+    if 60000 < at {
+        return 0;
+    }
+    let low = size(b, at) | (size(b, at + 2) << 16);
+    let high = size(b, at + 4) | (size(b, at + 6) << 16);
+    low | (high << 32)
 }
 
 // A lane of 16 bits.
@@ -70,6 +105,54 @@ pub fn same32(a: [i32; 4], b: [i32; 4]) -> bool {
         }
     }
     true
+}
+
+// The n elements from `at` on; none where they are not all there.
+pub fn part(s: &[u8], at: usize, n: usize) -> &[u8] {
+    if s.len() < at {
+        return &s[..0];
+    }
+    if s.len() - at < n {
+        return &s[..0];
+    }
+    let e = at + n;
+    &s[at..e]
+}
+
+pub fn part16(s: &[u16], at: usize, n: usize) -> &[u16] {
+    if s.len() < at {
+        return &s[..0];
+    }
+    if s.len() - at < n {
+        return &s[..0];
+    }
+    let e = at + n;
+    &s[at..e]
+}
+
+// Whether a buffer holds the stored bytes from `start` to `end`, and one byte everywhere else.
+pub fn holds_stored(s: &[u8], fill: u8, start: usize, end: usize, stored: &[u8]) -> bool {
+    let mut k = 0;
+    while k < s.len() {
+        if byte_wanted(k, fill, start, end, stored) != s[k] {
+            return false;
+        }
+        k += 1;
+    }
+    true
+}
+
+fn byte_wanted(k: usize, fill: u8, start: usize, end: usize, stored: &[u8]) -> u8 {
+    if k < start {
+        return fill;
+    }
+    if end <= k {
+        return fill;
+    }
+    if stored.len() <= k - start {
+        return fill;
+    }
+    stored[k - start]
 }
 
 // Counts an equal or a different answer.
