@@ -5,6 +5,8 @@ mod bits;
 mod dct;
 mod frames;
 mod lanes;
+mod planes;
+mod record;
 mod tables;
 
 use crate::gen::Rng;
@@ -16,12 +18,13 @@ const SEED: u64 = 1;
 
 type List = (&'static str, fn(&mut Rng) -> (Vec<u8>, usize));
 
-const LISTS: [List; 5] = [
+const LISTS: [List; 6] = [
     ("lanes", lanes::list),
     ("tables", tables::list),
     ("bits", bits::list),
     ("dct", dct::list),
     ("frames", frames::list),
+    ("planes", planes::list),
 ];
 
 /// Writes crates/replay_NAME/stdin and stdout for each list.

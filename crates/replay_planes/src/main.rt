@@ -1,0 +1,228 @@
+// Replays the Rust's coding calls on small planes and slices. A record of 552 bytes (oracle/ANSWERS.md): the call's arguments, its
+// answer, the streams that it wrote, and samples, which are repeated until 512 are there.
+ghost use Prim.Native.Nat.{_<_};
+use encoder::CodeAnswer;
+use replay::count;
+use replay::number;
+use replay::part;
+use replay::part16;
+use replay::position;
+use replay::size;
+
+// Where the k-th of 512 samples is stored, if so many are.
+fn repeated(b: &[u8; 552], k: usize) -> usize
+    ensures { λ r. ⌜ r < 256 ⌝ }
+{
+    let stored = size(b, 14);
+    if stored == 0 {
+        return 0;
+    }
+    let at = k % stored;
+    if 255 < at {
+        return 0;
+    }
+    at
+}
+
+// The samples of 8 bits.
+fn samples8(b: &[u8; 552]) -> [u8; 512] {
+    let mut r = [0u8; 512];
+    for k in 0..512 {
+        r[k] = b[296 + repeated(b, k)];
+    }
+    r
+}
+
+// The samples of 10 bits, at the top of 16.
+fn samples10(b: &[u8; 552]) -> [u16; 512] {
+    let mut r = [0u16; 512];
+    for k in 0..512 {
+        r[k] = number(b, 296 + 2 * repeated(b, k));
+    }
+    r
+}
+
+fn shift_of(b: &[u8]) -> u32 {
+    narrow(number(b, 6))
+}
+
+fn narrow(x: u16) -> u32 {
+    x as u32
+}
+
+// No record has this answer.
+fn misread() -> CodeAnswer {
+    CodeAnswer::Refused(0, 0, 0)
+}
+
+// The call on an 8-bit plane.
+fn plane8(b: &[u8], rows: &[u8], dcs: &mut [u8], acs: &mut [u8]) -> CodeAnswer {
+    encoder::encode_plane8(
+        part(rows, size(b, 24), size(b, 32)),
+        size(b, 16),
+        size(b, 8),
+        size(b, 4),
+        shift_of(b),
+        dcs,
+        position(b, 40),
+        acs,
+        position(b, 48),
+    )
+}
+
+// The call on a 10-bit plane.
+fn plane10(b: &[u8], rows: &[u16], dcs: &mut [u8], acs: &mut [u8]) -> CodeAnswer {
+    encoder::encode_plane10(
+        part16(rows, size(b, 24), size(b, 32)),
+        size(b, 16),
+        size(b, 8),
+        size(b, 4),
+        shift_of(b),
+        dcs,
+        position(b, 40),
+        acs,
+        position(b, 48),
+    )
+}
+
+// The call on an 8-bit slice.
+fn slice8(b: &[u8], rows: &[u8], dcs: &mut [u8], acs: &mut [u8]) -> CodeAnswer {
+    encoder::encode_slice8(
+        part(rows, size(b, 24), size(b, 32)),
+        size(b, 16),
+        part(rows, size(b, 26), size(b, 34)),
+        size(b, 18),
+        part(rows, size(b, 28), size(b, 36)),
+        size(b, 20),
+        part(rows, size(b, 30), size(b, 38)),
+        size(b, 22),
+        size(b, 8),
+        size(b, 4),
+        shift_of(b),
+        dcs,
+        position(b, 40),
+        acs,
+        position(b, 48),
+    )
+}
+
+// The call on a 10-bit slice.
+fn slice10(b: &[u8], rows: &[u16], dcs: &mut [u8], acs: &mut [u8]) -> CodeAnswer {
+    encoder::encode_slice10(
+        part16(rows, size(b, 24), size(b, 32)),
+        size(b, 16),
+        part16(rows, size(b, 26), size(b, 34)),
+        size(b, 18),
+        part16(rows, size(b, 28), size(b, 36)),
+        size(b, 20),
+        part16(rows, size(b, 30), size(b, 38)),
+        size(b, 22),
+        size(b, 8),
+        size(b, 4),
+        shift_of(b),
+        dcs,
+        position(b, 40),
+        acs,
+        position(b, 48),
+    )
+}
+
+// The call that the record names.
+fn called(b: &[u8; 552], dcs: &mut [u8], acs: &mut [u8]) -> CodeAnswer {
+    let op = b[0];
+    if op == 0 {
+        let rows = samples8(b);
+        plane8(b, &rows, dcs, acs)
+    } else if op == 1 {
+        let rows = samples10(b);
+        plane10(b, &rows, dcs, acs)
+    } else if op == 2 {
+        let rows = samples8(b);
+        slice8(b, &rows, dcs, acs)
+    } else {
+        let rows = samples10(b);
+        slice10(b, &rows, dcs, acs)
+    }
+}
+
+// Lends as much of the AC buffer as the record says.
+fn lend_ac(b: &[u8; 552], dcs: &mut [u8], acs: &mut [u8]) -> CodeAnswer {
+    let n = size(b, 12);
+    if acs.len() < n {
+        return misread();
+    }
+    called(b, dcs, &mut acs[0..n])
+}
+
+// Lends as much of the DC buffer as the record says.
+fn lend_dc(b: &[u8; 552], dcs: &mut [u8], acs: &mut [u8]) -> CodeAnswer {
+    let n = size(b, 10);
+    if dcs.len() < n {
+        return misread();
+    }
+    lend_ac(b, &mut dcs[0..n], acs)
+}
+
+// The number and both positions.
+fn answers(b: &[u8; 552], number: u32, d: usize, a: usize) -> bool {
+    if replay::refusal(b[2]) != number {
+        return false;
+    }
+    if position(b, 56) != d {
+        return false;
+    }
+    position(b, 64) == a
+}
+
+fn same_answer(b: &[u8; 552], r: CodeAnswer) -> bool {
+    match r {
+        CodeAnswer::Refused(x, d, a) => { if x == 0 { false } else { answers(b, x, d, a) } }
+        CodeAnswer::Accepted(d, a) => answers(b, 0, d, a),
+    }
+}
+
+// Both buffers: the streams written, and the byte that filled them.
+fn same_bytes(b: &[u8; 552], dcs: &[u8], acs: &[u8]) -> bool {
+    let d = part(b, 72, 24);
+    let a = part(b, 96, 200);
+    if !replay::holds_stored(dcs, b[1], position(b, 40), position(b, 56), d) {
+        return false;
+    }
+    replay::holds_stored(acs, b[1], position(b, 48), position(b, 64), a)
+}
+
+fn holds(b: &[u8; 552]) -> bool {
+    let mut dcs = [b[1]; 100];
+    let mut acs = [b[1]; 1800];
+    let r = lend_dc(b, &mut dcs, &mut acs);
+    if same_answer(b, r) {
+        same_bytes(b, &dcs, &acs)
+    } else {
+        false
+    }
+}
+
+// Reads and compares one record; false where there is none.
+fn turn(counts: &mut [u64; 2]) -> bool {
+    let mut b = [0u8; 552];
+    let n = io::read_full(0, &mut b);
+    if n < 552 {
+        return false;
+    }
+    let ok = holds(&b);
+    count(counts, ok);
+    true
+}
+
+fn all(counts: &mut [u64; 2]) {
+    let mut turns = 1000000u64;
+    while turns > 0 && turn(counts) {
+        turns -= 1;
+    }
+}
+
+fn main() {
+    let mut counts = [0u64; 2];
+    all(&mut counts);
+    replay::say(&counts);
+}
