@@ -11,7 +11,7 @@ ghost use Rattle.bitreader.specs.Cursor.{At};
 ghost use Rattle.slice.specs.Arguments.{eight};
 ghost use Rattle.slice.specs.ReadPlane.{readSteps, settle};
 ghost use Rattle.slice.specs.Plane.{level};
-ghost use Rattle.slice.specs.Questions.{strideOk, previewQuestions};
+ghost use Rattle.slice.specs.Questions.{previewQuestions};
 ghost use Rattle.slice.specs.Previews.{preview};
 ghost use Rattle.preview.specs.Row.{stepOf, byteOf, dcEnd, endSays, RowDone, previewSays};
 use bitreader::AcCursor;
@@ -112,19 +112,6 @@ fn preview_row(
     RowEnd { c, last }
 }
 
-// Question 4: a multiple of 8 from 8 to 7,680.
-fn stride_ok(stride: usize) -> bool
-    ensures { λ r. ⌜ r ≡ strideOk stride ⌝ }
-{
-    if stride % 8 != 0 {
-        return false;
-    }
-    if stride < 8 {
-        return false;
-    }
-    stride <= 7680
-}
-
 // The first "no" among the questions, 0 where there is none; the outputs have room for so many bytes, the stream has so many.
 fn preview_number(
     shift: u32,
@@ -143,7 +130,7 @@ fn preview_number(
     if 3 < place {
         return 3;
     }
-    if stride_ok(stride) {
+    if asks::one::stride_ok(stride) {
         if over < stride / 8 {
             return 5;
         }

@@ -9,7 +9,7 @@ ghost use Rattle.ask.specs.Ask.{firstNo};
 ghost use Rattle.bits.specs.Bits.{bitAt};
 ghost use Rattle.bits.specs.Lay.{lay};
 ghost use Rattle.slice.specs.ReadPlane.{readBlocks};
-ghost use Rattle.slice.specs.Questions.{strideOk, reportQuestions};
+ghost use Rattle.slice.specs.Questions.{reportQuestions};
 ghost use Rattle.slice.specs.Previews.{blockReport};
 ghost use Rattle.report.specs.Report.{flatByte, blockEnds, goodEnds, reportsOf, acEnd, endSays, reportSays};
 use acread::BlockEnd;
@@ -77,24 +77,11 @@ fn store_report(ac: &[u8], at: usize, n: usize, report: &mut [u8])
     }
 }
 
-// Question 4: a multiple of 8 from 8 to 7,680.
-fn stride_ok(stride: usize) -> bool
-    ensures { λ r. ⌜ r ≡ strideOk stride ⌝ }
-{
-    if stride % 8 != 0 {
-        return false;
-    }
-    if stride < 8 {
-        return false;
-    }
-    stride <= 7680
-}
-
 // The first "no" among the questions, 0 where there is none; the report has room for so many bytes, the stream so many.
 fn report_number(stride: usize, room: usize, bytes: usize, at: usize) -> u32
     ensures { λ r. ⌜ ((report : List ℕ) → length report ≡ room → r ≡ firstNo (reportQuestions stride report bytes at)) ⌝ }
 {
-    if stride_ok(stride) {
+    if asks::one::stride_ok(stride) {
         if room < stride / 4 {
             return 5;
         }
