@@ -2,4 +2,5 @@
 pub mod coding;
 pub mod container;
 pub mod previews;
+pub mod reading;
 pub mod room;

@@ -1,0 +1,22 @@
+-- `vmx::reading::vmx_decode_slice8`.
+use borrow.Author.Needs.{needs}
+use mathlib.Core.Path.{_∙_}
+use Rattle.vmx.proofs.reading.vmx_decode_slice8.Statement.{statement}
+use Rattle.vmx.proofs.reading.vmx_decode_slice8.Tie as tie
+
+returns : tie.Need-returns
+returns c =
+    let v = c .before .before .before .before .before .before .before .before .before .before .before in
+    c .hand-back .ensures _ ∙ v .decode-slice8 .ensures
+
+pub vmx-decode-slice8-spec : {M : Type 1} → statement M
+vmx-decode-slice8-spec =
+    tie.close
+    (tie.spec
+    (λ c κs. search needs)
+    (λ c κs. search needs)
+    (λ c. search needs)
+    (λ c. search needs)
+    (λ c. search needs)
+    (λ c. search needs)
+    returns)
