@@ -1,12 +1,13 @@
 //! Times beside the Rust's, in one run: the best of several rounds, since other
 //! work on the machine only ever adds.
 
-use crate::calls::{Buffers, PlaneCoder, Rust};
+use crate::calls::{Buffers, Calls, Plane, PlaneCoder, Rust};
 use crate::gen::planes::Made;
 use crate::gen::Rng;
-use crate::ours::{self, planes::Ours};
+use crate::ours::{self, planes::code_counted, planes::Ours};
 use crate::questions::{self, Settings};
-use reference::api::PATHS;
+use reference::api::tables::quant;
+use reference::api::{dct, Depth, PATHS};
 use reference::api::bits::{AcSymbol, Cursor, Writer};
 use std::hint::black_box;
 use std::process::ExitCode;
@@ -19,8 +20,9 @@ pub fn run() -> ExitCode {
     println!("| | ours | SSE2 | ratio | portable | ratio |");
     println!("|---|---|---|---|---|---|");
     symbols();
-    coding::<u8>("8-bit");
-    coding::<u16>("10-bit");
+    blocks();
+    calls::<u8>("8-bit");
+    calls::<u16>("10-bit");
     ExitCode::SUCCESS
 }
 
@@ -89,36 +91,178 @@ fn symbols() {
     line("AC symbol read", ours, rust, None);
 }
 
-/// Blocks coded, of planes that are half noise, half smooth, at stride 1,920.
-fn coding<T: Made>(depth: &str) {
+/// Transforms with quantiser, of a row of blocks.
+fn blocks() {
     const STRIDE: usize = 1920;
+    const N: usize = STRIDE / 8;
+    let preset = 8;
+    let q = quant(preset);
+    let (eight, ten) = (content::<u8>(STRIDE).2, content::<u16>(STRIDE).2);
+    let mut z = [0i16; 64];
+    let ours = best(N, || ours::dct::forward_row8(black_box(&eight), STRIDE, preset, &mut z));
+    let [sse2, portable] = PATHS.map(|path| {
+        best(N, || {
+            black_box(dct::forward_row(path, black_box(&eight), STRIDE, Depth::Eight, &q.encode, -128));
+        })
+    });
+    line("forward transform, quantiser and scan of a block, 8-bit", ours, sse2, Some(portable));
+    let ours = best(N, || ours::dct::forward_row16(black_box(&ten), STRIDE, preset, &mut z));
+    let [sse2, portable] = PATHS.map(|path| {
+        best(N, || {
+            black_box(dct::forward_row(path, black_box(&ten), STRIDE, Depth::Ten, &q.encode, -512));
+        })
+    });
+    line("the same, 10-bit", ours, sse2, Some(portable));
+
+    let nat: [i16; 64] = core::array::from_fn(|i| if i % 5 == 0 { 40 - i as i16 } else { 0 });
+    let mut rows = eight.clone();
+    let ours = best(N, || ours::dct::inverse_row8(black_box(&nat), preset, &mut rows, STRIDE));
+    let [sse2, portable] = PATHS.map(|path| {
+        best(N, || {
+            for x in (0..STRIDE).step_by(8) {
+                dct::idct8(path, black_box(&nat), &q.decode, &mut rows[x..], STRIDE, 128);
+            }
+        })
+    });
+    line("dequantising, inverse transform and store of a block, 8-bit", ours, sse2, Some(portable));
+    let mut rows = ten.clone();
+    let ours = best(N, || ours::dct::inverse_row16(black_box(&nat), preset, &mut rows, STRIDE));
+    let [sse2, portable] = PATHS.map(|path| {
+        best(N, || {
+            for x in (0..STRIDE).step_by(8) {
+                dct::idct16(path, black_box(&nat), &q.decode, &mut rows[x..], STRIDE, 512);
+            }
+        })
+    });
+    line("the same, 10-bit", ours, sse2, Some(portable));
+}
+
+/// A plane whose left half is smooth and whose right half has noise of a quarter of the range.
+fn content<T: Made>(stride: usize) -> Plane<T> {
     let mut rng = Rng::new(11);
-    let lanes: Vec<u16> = (0..16 * STRIDE)
+    let lanes: Vec<u16> = (0..16 * stride)
         .map(|i| {
-            let (x, y) = (i % STRIDE, i / STRIDE);
+            let (x, y) = (i % stride, i / stride);
             let m = T::MAX as usize;
-            let v = (x * m / STRIDE + 3 * y) % (m + 1);
-            if x < STRIDE / 2 { v as u16 } else { ((v + rng.below(m / 4)) % (m + 1)) as u16 }
+            let v = (x * m / stride + 3 * y) % (m + 1);
+            if x < stride / 2 { v as u16 } else { ((v + rng.below(m / 4)) % (m + 1)) as u16 }
         })
         .collect();
-    let rows: Vec<T> = lanes.into_iter().map(|v| T::make(&mut rng, v)).collect();
-    let plane = (0, STRIDE, rows);
-    let (n, m) = questions::sizes(STRIDE);
-    let mut b = Buffers { dc: vec![0; n], dc_at: 0, ac: vec![0; m], ac_at: 0 };
-    for preset in [0, 8, 24] {
-        let settings = Settings { preset, dc_shift: 0 };
-        let mut time = |f: &dyn Fn(&mut Buffers)| {
-            best(STRIDE / 4, || {
-                (b.dc_at, b.ac_at) = (0, 0);
-                f(black_box(&mut b));
-            })
-        };
-        let ours = time(&|b| assert_eq!(Ours.code_plane(settings, &plane, b), 0));
-        // The Rust's own function: its streams go into vectors that grow.
-        let [sse2, portable] = PATHS.map(|path| {
-            let rust = Rust::new(path);
-            time(&|_| drop(black_box(rust.streams(settings, &plane))))
-        });
-        line(&format!("block coded, {depth}, preset {preset}"), ours, sse2, Some(portable));
+    (0, stride, lanes.into_iter().map(|v| T::make(&mut rng, v)).collect())
+}
+
+/// Planes and slices coded and read, previews, block reports: ns a block.
+fn calls<T: Made>(depth: &str) {
+    for (stride, presets) in [(1920, &[0, 8, 24][..]), (64, &[8]), (7680, &[8])] {
+        let plane = content::<T>(stride);
+        for preset in presets {
+            coding(&format!("{depth}, stride {stride}, preset {preset}"), Settings { preset: *preset, dc_shift: 0 }, &plane);
+        }
+        for preset in presets {
+            reading(&format!("{depth}, stride {stride}, preset {preset}"), Settings { preset: *preset, dc_shift: 0 }, &plane);
+        }
     }
+    slices::<T>(depth);
+    alone::<T>(depth);
+}
+
+fn room(stride: usize) -> Buffers {
+    let (n, m) = questions::sizes(stride);
+    Buffers { dc: vec![0; n], dc_at: 0, ac: vec![0; m], ac_at: 0 }
+}
+
+fn coding<T: Made>(name: &str, settings: Settings, plane: &Plane<T>) {
+    let mut b = room(plane.1);
+    let mut time = |f: &dyn Fn(&mut Buffers)| {
+        best(plane.1 / 4, || {
+            (b.dc_at, b.ac_at) = (0, 0);
+            f(black_box(&mut b));
+        })
+    };
+    let ours = time(&|b| assert_eq!(Ours.code_plane(settings, plane, b), 0));
+    // The Rust's own function: its streams go into vectors that grow.
+    let [sse2, portable] = PATHS.map(|path| {
+        let rust = Rust::new(path);
+        time(&|_| drop(black_box(rust.streams(settings, plane))))
+    });
+    line(&format!("block coded, {name}"), ours, sse2, Some(portable));
+}
+
+/// The streams end where the plane's last code does, as in a frame.
+fn coded<T: Made>(settings: Settings, planes: &[Plane<T>]) -> Buffers {
+    let mut b = room(planes.iter().map(|p| p.1).sum());
+    assert_eq!(Ours.code_slice(settings, planes, &mut b), 0);
+    b.dc.truncate(b.dc_at);
+    b.ac.truncate(b.ac_at);
+    (b.dc_at, b.ac_at) = (0, 0);
+    b
+}
+
+fn reading<T: Made>(name: &str, settings: Settings, plane: &Plane<T>) {
+    let mut b = coded(settings, std::slice::from_ref(plane));
+    let mut rows = plane.clone();
+    let ours = best(plane.1 / 4, || {
+        (b.dc_at, b.ac_at) = (0, 0);
+        assert_eq!(Ours.read_plane(settings, black_box(&mut rows), &mut b), 0);
+    });
+    let [sse2, portable] = PATHS.map(|path| {
+        let rust = Rust::new(path);
+        best(plane.1 / 4, || assert!(rust.rows(settings, black_box(&mut rows), &b, (0, 0)).is_some()))
+    });
+    line(&format!("block read, {name}"), ours, sse2, Some(portable));
+}
+
+/// A slice of three planes, 4:2:2.
+fn slices<T: Made>(depth: &str) {
+    let settings = Settings { preset: 8, dc_shift: 0 };
+    let planes: Vec<Plane<T>> = [1920, 960, 960].iter().enumerate().map(|(p, s)| (p, *s, content::<T>(*s).2)).collect();
+    let blocks: usize = planes.iter().map(|p| p.1 / 4).sum();
+    let mut b = room(3840);
+    let ours = best(blocks, || {
+        (b.dc_at, b.ac_at) = (0, 0);
+        assert_eq!(code_counted(settings, 3, &mut planes.clone(), black_box(&mut b)), 0);
+    });
+    let copying = best(blocks, || drop(black_box(planes.clone())));
+    let [sse2, portable] = PATHS.map(|path| {
+        let rust = Rust::new(path);
+        best(blocks, || planes.iter().for_each(|p| drop(black_box(rust.streams(settings, p)))))
+    });
+    line(&format!("block of a slice of three planes coded, {depth}, preset 8"), ours - copying, sse2, Some(portable));
+    let mut b = coded(settings, &planes);
+    let mut rows = planes.clone();
+    let ours = best(blocks, || {
+        (b.dc_at, b.ac_at) = (0, 0);
+        assert_eq!(Ours.read_slice(settings, black_box(&mut rows), &mut b), 0);
+    });
+    let [sse2, portable] = PATHS.map(|path| {
+        let rust = Rust::new(path);
+        best(blocks, || {
+            let mut at = (0, 0);
+            for p in &mut rows {
+                at = rust.rows(settings, black_box(p), &b, at).unwrap();
+            }
+        })
+    });
+    line(&format!("block of a slice of three planes read, {depth}, preset 8"), ours, sse2, Some(portable));
+}
+
+/// Previews and block reports: one stream alone. The Rust has no report; beside ours stands its cursor under document 01's rule.
+fn alone<T: Made>(depth: &str) {
+    let settings = Settings { preset: 8, dc_shift: 0 };
+    let plane = content::<T>(1920);
+    let mut b = coded(settings, std::slice::from_ref(&plane));
+    let (mut x, mut y, mut flat) = (vec![0; 240], vec![0; 240], vec![0; 480]);
+    let rust = Rust::new(PATHS[0]);
+    let mut time = |who: &mut dyn FnMut(&mut [u8], &mut [u8], &mut [u8], &mut Buffers) -> u32| {
+        best(480, || {
+            (b.dc_at, b.ac_at) = (0, 0);
+            assert_eq!(who(&mut x, &mut y, &mut flat, black_box(&mut b)), 0);
+        })
+    };
+    let ours = time(&mut |x, y, _, b| Ours.preview(0, 0, 1920, [x, y], b));
+    let theirs = time(&mut |x, y, _, b| rust.preview_in_place(0, 0, 1920, [x, y], b));
+    line(&format!("block previewed, {depth}"), ours, theirs, None);
+    let ours = time(&mut |_, _, f, b| Ours.block_report(1920, f, b));
+    let theirs = time(&mut |_, _, f, b| rust.block_report(1920, f, b));
+    line(&format!("block reported, {depth}"), ours, theirs, None);
 }

@@ -23,6 +23,15 @@ pub fn sizes(stride: usize) -> (usize, usize) {
     (4 * (stride / 4), 197 * (stride / 4))
 }
 
+/// Question 4 over all planes.
+pub fn strides(all: &[usize]) -> u32 {
+    if all.iter().any(|s| s % 8 != 0 || *s < 8 || *s > 7680) {
+        4
+    } else {
+        0
+    }
+}
+
 /// Questions 1 to 5, over all planes before the next question.
 fn shapes(s: Settings, planes: &[Shape]) -> u32 {
     if s.preset > 24 {
@@ -34,7 +43,7 @@ fn shapes(s: Settings, planes: &[Shape]) -> u32 {
     if planes.is_empty() || planes.len() > 4 || planes.iter().any(|p| p.place > 3) {
         return 3;
     }
-    if planes.iter().any(|p| p.stride % 8 != 0 || p.stride < 8 || p.stride > 7680) {
+    if planes.iter().any(|p| strides(&[p.stride]) > 0) {
         return 4;
     }
     if planes.iter().any(|p| p.len < 16 * p.stride) {

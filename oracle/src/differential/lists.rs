@@ -5,6 +5,7 @@ use super::Run;
 use crate::calls::{Buffers, Calls, Plane, Rust};
 use crate::gen::planes::{self, Made};
 use crate::gen::{streams, Rng};
+use crate::ours::planes::Ours;
 use crate::questions::{self, Settings};
 use reference::api::Path;
 
@@ -13,6 +14,10 @@ pub fn run(run: &mut Run) {
     let portable = Rust::new(Path::Portable);
     while run.more() {
         for _ in 0..10 {
+            for _ in 0..3 {
+                both::<u8>(run, &rust, &Ours, "8-bit");
+                both::<u16>(run, &rust, &Ours, "10-bit");
+            }
             both::<u8>(run, &rust, &portable, "8-bit");
             both::<u16>(run, &rust, &portable, "10-bit");
         }

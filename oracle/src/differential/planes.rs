@@ -6,7 +6,7 @@ use crate::calls::{coding_number, reading_number, Buffers, Calls, Plane, PlaneCo
 use crate::gen::planes::{self, Made};
 use crate::gen::streams::{self, Reading};
 use crate::gen::Rng;
-use crate::ours::planes::Ours;
+use crate::ours::planes::{self as ours, Ours};
 use crate::questions::{self, Settings};
 use reference::api::Path;
 
@@ -14,7 +14,10 @@ pub fn run(run: &mut Run) {
     let rust = Rust::new(Path::Sse2);
     let portable = Rust::new(Path::Portable);
     far_coding::<u8>(run, &rust, &Ours);
-    far_reading::<u8>(run, &rust, &portable);
+    far_reading::<u8>(run, &rust, &Ours);
+    counts::<u8>(run);
+    counts::<u16>(run);
+    sizes(run);
     while run.more() {
         for _ in 0..10 {
             both::<u8>(run, &rust, &portable, "8-bit");
@@ -27,11 +30,12 @@ fn both<T: Made>(run: &mut Run, rust: &Rust, portable: &Rust, depth: &str) {
     for _ in 0..3 {
         coded::<T>(run, rust, &Ours, depth);
         coding_refused::<T>(run, rust, &Ours);
+        read::<T>(run, rust, &Ours, depth);
+        reading_refused::<T>(run, rust, &Ours);
     }
+    // The Rust's own two paths.
     coded::<T>(run, rust, portable, depth);
-    coding_refused::<T>(run, rust, portable);
     read::<T>(run, rust, portable, depth);
-    reading_refused::<T>(run, rust, portable);
 }
 
 /// Bytes of a buffer: junk, then room for `need` bytes, then more junk.
@@ -226,6 +230,50 @@ fn reading_refused<T: Made>(run: &mut Run, rust: &Rust, other: &impl Calls) {
     let wanted = rust.block_report(plane.1, &mut x, &mut b);
     let found = other.block_report(plane.1, &mut y, &mut c);
     run.report.same(kind, &(found, y, c), &(wanted, x, b), size, || text(settings, &plane, &before));
+}
+
+/// Plane counts that are not 1 to 4: question 3, whatever the planes are.
+fn counts<T: Made>(run: &mut Run) {
+    let kind = run.report.kind("planes: slices of no plane or of more than four, ours");
+    let settings = Settings { preset: 3, dc_shift: 1 };
+    let planes: Vec<Plane<T>> = (0..4).map(|p| (p, 8, vec![T::default(); 128])).collect();
+    let (most_dc, most_ac) = questions::sizes(32);
+    let before = Buffers { dc: vec![0x5A; most_dc], dc_at: 0, ac: vec![0x5A; most_ac], ac_at: 0 };
+    for count in [0, 1, 2, 3, 4, 5, 6, 255, 256, 260, 1 << 32, (1 << 32) + 1, usize::MAX] {
+        let wanted = if (1..=4).contains(&count) { 0 } else { 3 };
+        let (mut p, mut b) = (planes.clone(), before.clone());
+        let coded = ours::code_counted(settings, count, &mut p, &mut b);
+        let moved = b != before;
+        let (mut q, mut c) = (planes.clone(), before.clone());
+        let read = ours::read_counted(settings, count, &mut q, &mut c);
+        let changed = q != planes || c != before;
+        run.report.check(kind, coded == wanted && read == wanted && moved == (wanted == 0) && changed == (wanted == 0), 0, || {
+            format!("count {count}: {coded} and {read}, wanted {wanted}")
+        });
+    }
+}
+
+/// The size calls: 4 and 197 bytes a block, for every stride and count.
+fn sizes(run: &mut Run) {
+    let kind = run.report.kind("planes: size calls, ours");
+    let one = |stride: usize| questions::strides(&[stride]);
+    for stride in (0..=7700).chain([usize::MAX - 7, usize::MAX, 1 << 32, (1 << 32) + 8]) {
+        let (number, (dc, ac)) = (one(stride), questions::sizes(stride % 7688));
+        let wanted = if number == 0 { (0, dc, ac) } else { (number, 0, 0) };
+        run.report.same(kind, &ours::plane_size(stride), &wanted, stride, || format!("stride {stride}"));
+    }
+    for _ in 0..20_000 {
+        let rng = &mut run.rng;
+        let s: [usize; 4] = core::array::from_fn(|_| if rng.once_in(6) { around(rng, 7680) } else { 8 * rng.between(1, 960) });
+        let count = around(rng, 4);
+        let number = if (1..=4).contains(&count) { questions::strides(&s[..count]) } else { 3 };
+        let wanted = if number == 0 {
+            s[..count].iter().map(|s| questions::sizes(*s)).fold((0, 0, 0), |a, b| (0, a.1 + b.0, a.2 + b.1))
+        } else {
+            (number, 0, 0)
+        };
+        run.report.same(kind, &ours::slice_size(count, s), &wanted, count, || format!("{count} of {s:?}"));
+    }
 }
 
 /// Coding from starts at and past 16,777,215 in buffers that have the room: question 7.

@@ -6,6 +6,10 @@ extern "C" {
     fn probe_dct_forward(rows: *const i16, rn: usize, add: i16, ten: bool, preset: usize, out: *mut i16, n: usize);
     fn probe_dct_inverse8(nat: *const i16, nn: usize, preset: usize, level: i16, rows: *mut u8, n: usize, stride: usize);
     fn probe_dct_inverse16(nat: *const i16, nn: usize, preset: usize, level: i16, rows: *mut u16, n: usize, stride: usize);
+    fn probe_blocks_forward8(rows: *const u8, n: usize, stride: usize, preset: usize, out: *mut i16, m: usize);
+    fn probe_blocks_forward16(rows: *const u16, n: usize, stride: usize, preset: usize, out: *mut i16, m: usize);
+    fn probe_blocks_inverse8(nat: *const i16, m: usize, preset: usize, rows: *mut u8, n: usize, stride: usize);
+    fn probe_blocks_inverse16(nat: *const i16, m: usize, preset: usize, rows: *mut u16, n: usize, stride: usize);
     fn probe_dct_flat(dc: i16, level: i16, rows: *mut u8, n: usize, stride: usize);
 }
 
@@ -29,4 +33,22 @@ pub fn inverse16(nat: &[i16; 64], preset: usize, level: i16, rows: &mut [u16], s
 /// A flat block.
 pub fn flat(dc: i16, level: i16, rows: &mut [u8], stride: usize) {
     unsafe { probe_dct_flat(dc, level, rows.as_mut_ptr(), rows.len(), stride) }
+}
+
+/// A row of blocks, for timing; the last block's numbers are kept.
+pub fn forward_row8(rows: &[u8], stride: usize, preset: usize, out: &mut [i16; 64]) {
+    unsafe { probe_blocks_forward8(rows.as_ptr(), rows.len(), stride, preset, out.as_mut_ptr(), 64) }
+}
+
+pub fn forward_row16(rows: &[u16], stride: usize, preset: usize, out: &mut [i16; 64]) {
+    unsafe { probe_blocks_forward16(rows.as_ptr(), rows.len(), stride, preset, out.as_mut_ptr(), 64) }
+}
+
+/// One block of coefficients over a row of blocks, for timing.
+pub fn inverse_row8(nat: &[i16; 64], preset: usize, rows: &mut [u8], stride: usize) {
+    unsafe { probe_blocks_inverse8(nat.as_ptr(), 64, preset, rows.as_mut_ptr(), rows.len(), stride) }
+}
+
+pub fn inverse_row16(nat: &[i16; 64], preset: usize, rows: &mut [u16], stride: usize) {
+    unsafe { probe_blocks_inverse16(nat.as_ptr(), 64, preset, rows.as_mut_ptr(), rows.len(), stride) }
 }
