@@ -5,7 +5,7 @@
  *
  * A call that returns uint32_t under "number" returns 0 where it is accepted, else the number of the first question of
  * the list below that is answered no. A refused call leaves all memory that it was lent as it was, except that a part
- * (offset, length) is 0, 0.
+ * (offset, length) is 0, 0 and so are the lengths of a size call.
  *
  * What the caller owes, as in any C library: a buffer (pointer, count) has so many elements (a count of 0 may come
  * with any pointer that is not null), each place for an answer can be read and written, and no place for an answer lies
@@ -28,9 +28,9 @@ extern "C" {
 #define VMX_NO_PLANE 3      /* plane place 0 to 3, plane count 1 to 4? */
 #define VMX_NO_STRIDE 4     /* stride a multiple of 8 from 8 to 7,680? */
 #define VMX_NO_ROWS 5       /* rows long enough? (shown rows: up to the slice's end in both pictures) */
-#define VMX_NO_ROOM 6       /* room behind the start for what is written? */
+#define VMX_NO_ROOM 6       /* room behind the start for the size call's lengths (builder: for what it writes)? */
 #define VMX_NO_START 7      /* starts at most 16,777,215, streams read within 245,760 (DC) and 430,080 (AC) bytes? */
-#define VMX_NO_CODE 8       /* at most 54 zeros in front of every code reached? */
+#define VMX_NO_CODE 8       /* at most 54 zeros behind the head of every code reached? */
 #define VMX_NO_SIZE 9       /* width even, 16 to 7,680, height 16 to 4,320? */
 #define VMX_NO_BYTES 10     /* five bytes there, each length and stream whole? */
 #define VMX_NO_FORMAT 11    /* first byte 1, 2 or 3? */
@@ -40,8 +40,10 @@ extern "C" {
 
 /* ---- Planes
  *
- * A plane is 16 rows of `stride` samples, one row behind the other: rows_len is at least 16 * stride. Its place (0 to 3) is
- * which plane of a picture it is. Samples are uint8_t at 8 bits; at 10 bits they are uint16_t, the ten bits on top.
+ * A plane is 16 rows of `stride` samples, one row behind the other: rows_len is at least 16 * stride, and what lies behind
+ * is neither looked at nor changed. Its place says which plane of a picture it is: 0 luma, 1 and 2 chroma, 3 alpha.
+ * Samples are uint8_t at 8 bits; at 10 bits they are uint16_t, the ten bits on top: the low six bits do not count when
+ * a plane is coded and are 0 when it is read.
  *
  * dc_at and ac_at, in: the byte at which the plane's stream begins in the buffer. Out, where the call is accepted: the
  * byte behind it, so that the next plane goes on there. Refused: as they were. */
@@ -69,6 +71,29 @@ uint32_t vmx_encode_slice10(const uint16_t *p0, size_t p0_len, size_t stride0, c
                             size_t stride1, const uint16_t *p2, size_t p2_len, size_t stride2, const uint16_t *p3,
                             size_t p3_len, size_t stride3, size_t count, size_t preset, uint32_t shift, uint8_t *dc,
                             size_t dc_len, size_t *dc_at, uint8_t *ac, size_t ac_len, size_t *ac_at);
+
+/* Reads a plane into its rows: 16 * stride samples, from the DC stream at *dc_at and the AC stream at *ac_at; samples behind
+ * them stay. Past a stream's end every bit is one. Both streams are read through before a sample is stored.
+ * Number: 1 to 5, 7, 8. Refused: every sample and both positions stay as they were. */
+uint32_t vmx_decode_plane8(uint8_t *rows, size_t rows_len, size_t stride, size_t place, size_t preset, uint32_t shift,
+                           const uint8_t *dc, size_t dc_len, size_t *dc_at, const uint8_t *ac, size_t ac_len,
+                           size_t *ac_at);
+uint32_t vmx_decode_plane10(uint16_t *rows, size_t rows_len, size_t stride, size_t place, size_t preset, uint32_t shift,
+                            const uint8_t *dc, size_t dc_len, size_t *dc_at, const uint8_t *ac, size_t ac_len,
+                            size_t *ac_at);
+
+/* Reads the first `count` (1 to 4) of four planes, at places 0 to 3, from streams one behind the other. All of them are read
+ * through before a sample of any is stored. Planes from `count` on are neither asked about nor changed: their length may
+ * be 0.
+ * Number: 1 to 5, 7, 8. Refused: every sample of every plane and both positions stay as they were. */
+uint32_t vmx_decode_slice8(uint8_t *p0, size_t p0_len, size_t stride0, uint8_t *p1, size_t p1_len, size_t stride1,
+                           uint8_t *p2, size_t p2_len, size_t stride2, uint8_t *p3, size_t p3_len, size_t stride3,
+                           size_t count, size_t preset, uint32_t shift, const uint8_t *dc, size_t dc_len, size_t *dc_at,
+                           const uint8_t *ac, size_t ac_len, size_t *ac_at);
+uint32_t vmx_decode_slice10(uint16_t *p0, size_t p0_len, size_t stride0, uint16_t *p1, size_t p1_len, size_t stride1,
+                            uint16_t *p2, size_t p2_len, size_t stride2, uint16_t *p3, size_t p3_len, size_t stride3,
+                            size_t count, size_t preset, uint32_t shift, const uint8_t *dc, size_t dc_len,
+                            size_t *dc_at, const uint8_t *ac, size_t ac_len, size_t *ac_at);
 
 /* Lengths in bytes that the streams of a plane, or of the first `count` of four planes together, are at most: 4 bytes a
  * block (DC) and 197 bytes a block (AC).
@@ -136,7 +161,7 @@ uint32_t vmx_frame_start(size_t width, size_t height, uint32_t interlaced, uint8
 
 /* Puts the DC stream (ac 0) or the AC stream (ac any other number) of a slice, after its length, into out from *at on,
  * and sets the state for the next one. The DC streams of all slices have their turn in order, then the AC streams of
- * all slices. The frame is out[start .. *at]; it is complete after the last DC stream or after the last AC stream.
+ * all slices. The frame lies from where vmx_frame_start began up to *at; it is complete after the last DC stream or after the last AC stream.
  * Number: 6, 13, 14. Refused: out and the state stay as they were. */
 uint32_t vmx_frame_put(size_t slices, size_t max_dc_len, size_t max_ac_len, uint32_t ac, size_t slice,
                        const uint8_t *stream, size_t stream_len, uint8_t *out, size_t out_len, uint32_t *ac_turn,

@@ -211,9 +211,60 @@ static void shown(void) {
     check(vmx_shown_time(20, 10, VMX_OK) == 20 && vmx_shown_time(20, 10, VMX_NO_CODE) == 10, "time");
 }
 
+/* Planes and slices read: what was coded comes back, and a bad code leaves every sample. */
+static void reading(void) {
+    uint8_t rows[128], back[136], second[128], old[136], dc[16], ac[400];
+    uint16_t wide[128], wide_back[128];
+    static const uint8_t bad[] = {0xC0, 0, 0, 0, 0, 0, 0, 0};
+    uint8_t none[1];
+    size_t d = 0, a = 0, i, dc_end, ac_end;
+    for (i = 0; i < sizeof rows; i++) {
+        rows[i] = (uint8_t)(i < 64 ? 200 : 90);
+    }
+    check(vmx_encode_plane8(rows, 128, 8, 0, 0, 0, dc, sizeof dc, &d, ac, sizeof ac, &a) == VMX_OK, "coded");
+    dc_end = d;
+    ac_end = a;
+    memset(back, 7, sizeof back);
+    d = a = 0;
+    check(vmx_decode_plane8(back, sizeof back, 8, 0, 0, 0, dc, dc_end, &d, ac, ac_end, &a) == VMX_OK, "read");
+    check(d == dc_end && a == ac_end, "read up to where it was coded");
+    check(memcmp(back, rows, 128) == 0 && back[128] == 7 && back[135] == 7, "the samples, and those behind them");
+
+    d = a = 0;
+    check(vmx_decode_plane8(back, 128, 8, 0, 0, 0, none, 0, &d, none, 0, &a) == VMX_OK, "two empty streams");
+    check(d == 1 && a == 32 && back[0] == 128 && back[127] == 128, "all 128, ends 1 and 32");
+
+    memset(back, 7, sizeof back);
+    memset(second, 7, sizeof second);
+    memset(old, 7, sizeof old);
+    d = a = 0;
+    check(vmx_decode_plane8(back, 128, 8, 0, 0, 0, bad, sizeof bad, &d, none, 0, &a) == VMX_NO_CODE, "a bad code");
+    check(d == 0 && a == 0 && memcmp(back, old, 128) == 0, "every sample stays");
+    check(vmx_decode_slice8(back, 128, 8, second, 128, 8, none, 0, 0, none, 0, 0, 2, 0, 0, bad, sizeof bad, &d, none, 0, &a)
+              == VMX_NO_CODE, "a bad code in a slice");
+    check(d == 0 && a == 0 && memcmp(back, old, 128) == 0 && memcmp(second, old, 128) == 0, "both planes stay");
+    check(vmx_decode_plane8(back, 128, 8, 0, 25, 0, bad, sizeof bad, &d, none, 0, &a) == VMX_NO_PRESET, "preset 25");
+    d = 16777216;
+    check(vmx_decode_plane8(back, 128, 8, 0, 0, 0, dc, dc_end, &d, ac, ac_end, &a) == VMX_NO_START && d == 16777216,
+          "a start too far");
+
+    for (i = 0; i < 128; i++) {
+        wide[i] = (uint16_t)(512 << 6 | 63);
+        wide_back[i] = 1;
+    }
+    d = a = 0;
+    check(vmx_encode_plane10(wide, 128, 8, 0, 0, 0, dc, sizeof dc, &d, ac, sizeof ac, &a) == VMX_OK, "10 bits coded");
+    dc_end = d;
+    ac_end = a;
+    d = a = 0;
+    check(vmx_decode_plane10(wide_back, 128, 8, 0, 0, 0, dc, dc_end, &d, ac, ac_end, &a) == VMX_OK, "10 bits read");
+    check(wide_back[0] == 512 << 6 && wide_back[127] == 512 << 6, "the low six bits are 0");
+}
+
 int main(void) {
     planes();
     slices();
+    reading();
     previews();
     presets_and_rows();
     geometry();
