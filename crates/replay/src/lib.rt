@@ -22,6 +22,16 @@ pub fn refusal(b: u8) -> u32 {
     b as u32
 }
 
+// A number of two bytes as one of four.
+pub fn widened(x: u16) -> u32 {
+    x as u32
+}
+
+// A sample of 16 bits whose two bytes are b.
+pub fn twice(b: u8) -> u16 {
+    unsigned(b) | (unsigned(b) << 8)
+}
+
 // The number of two bytes, the low one first; 0 past the record's end.
 pub fn number(b: &[u8], at: usize) -> u16 {
     if b.len() < 2 {
@@ -153,6 +163,42 @@ fn byte_wanted(k: usize, fill: u8, start: usize, end: usize, stored: &[u8]) -> u
         return fill;
     }
     stored[k - start]
+}
+
+// The same for samples of 16 bits, from the buffer's start to `end`.
+pub fn holds_stored16(s: &[u16], fill: u16, end: usize, stored: &[u8]) -> bool {
+    let mut k = 0;
+    while k < s.len() {
+        if sample_wanted(k, fill, end, stored) != s[k] {
+            return false;
+        }
+        k += 1;
+    }
+    true
+}
+
+fn sample_wanted(k: usize, fill: u16, end: usize, stored: &[u8]) -> u16 {
+    if end <= k {
+        return fill;
+    }
+    if 30000 < k {
+        return fill;
+    }
+    number(stored, 2 * k)
+}
+
+// Whether a record of a call on planes has this number and these positions as its answer.
+pub fn answered(b: &[u8], number: u32, d: usize, a: usize) -> bool {
+    if b.len() < 72 {
+        return false;
+    }
+    if refusal(b[2]) != number {
+        return false;
+    }
+    if position(b, 56) != d {
+        return false;
+    }
+    position(b, 64) == a
 }
 
 // Counts an equal or a different answer.

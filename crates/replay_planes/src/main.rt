@@ -2,6 +2,7 @@
 // answer, the streams that it wrote, and samples, which are repeated until 512 are there.
 ghost use Prim.Native.Nat.{_<_};
 use encoder::CodeAnswer;
+use replay::answered;
 use replay::count;
 use replay::number;
 use replay::part;
@@ -43,11 +44,7 @@ fn samples10(b: &[u8; 552]) -> [u16; 512] {
 }
 
 fn shift_of(b: &[u8]) -> u32 {
-    narrow(number(b, 6))
-}
-
-fn narrow(x: u16) -> u32 {
-    x as u32
+    replay::widened(number(b, 6))
 }
 
 // No record has this answer.
@@ -163,21 +160,10 @@ fn lend_dc(b: &[u8; 552], dcs: &mut [u8], acs: &mut [u8]) -> CodeAnswer {
     lend_ac(b, &mut dcs[0..n], acs)
 }
 
-// The number and both positions.
-fn answers(b: &[u8; 552], number: u32, d: usize, a: usize) -> bool {
-    if replay::refusal(b[2]) != number {
-        return false;
-    }
-    if position(b, 56) != d {
-        return false;
-    }
-    position(b, 64) == a
-}
-
 fn same_answer(b: &[u8; 552], r: CodeAnswer) -> bool {
     match r {
-        CodeAnswer::Refused(x, d, a) => { if x == 0 { false } else { answers(b, x, d, a) } }
-        CodeAnswer::Accepted(d, a) => answers(b, 0, d, a),
+        CodeAnswer::Refused(x, d, a) => { if x == 0 { false } else { answered(b, x, d, a) } }
+        CodeAnswer::Accepted(d, a) => answered(b, 0, d, a),
     }
 }
 
