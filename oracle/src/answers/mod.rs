@@ -2,11 +2,14 @@
 //! ours with, where no Rust is at hand. ANSWERS.md describes the records.
 
 mod bits;
+mod built;
 mod dct;
 mod frames;
 mod lanes;
 mod planes;
+mod reads;
 mod record;
+mod streams;
 mod tables;
 
 use crate::gen::Rng;
@@ -18,13 +21,15 @@ const SEED: u64 = 1;
 
 type List = (&'static str, fn(&mut Rng) -> (Vec<u8>, usize));
 
-const LISTS: [List; 6] = [
+const LISTS: [List; 8] = [
     ("lanes", lanes::list),
     ("tables", tables::list),
     ("bits", bits::list),
     ("dct", dct::list),
     ("frames", frames::list),
+    ("built", built::list),
     ("planes", planes::list),
+    ("reads", reads::list),
 ];
 
 /// Writes crates/replay_NAME/stdin and stdout for each list.

@@ -55,3 +55,20 @@ pub fn stored<T: Made>(rows: &[T]) -> Vec<u8> {
         Rows::Ten(r) => r.iter().flat_map(|x| x.to_le_bytes()).collect(),
     }
 }
+
+/// Samples both of whose bytes, or whose one byte, are the same.
+pub trait Filled: Made {
+    fn filled(b: u8) -> Self;
+}
+
+impl Filled for u8 {
+    fn filled(b: u8) -> u8 {
+        b
+    }
+}
+
+impl Filled for u16 {
+    fn filled(b: u8) -> u16 {
+        257 * b as u16
+    }
+}
