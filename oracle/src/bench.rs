@@ -4,7 +4,7 @@
 use crate::calls::{Buffers, Calls, Plane, PlaneCoder, Rust};
 use crate::gen::planes::Made;
 use crate::gen::Rng;
-use crate::ours::{self, planes::code_counted, planes::Ours};
+use crate::ours::{self, planes::OURS};
 use crate::questions::{self, Settings};
 use reference::api::tables::quant;
 use reference::api::{dct, Depth, PATHS};
@@ -179,7 +179,7 @@ fn coding<T: Made>(name: &str, settings: Settings, plane: &Plane<T>) {
             f(black_box(&mut b));
         })
     };
-    let ours = time(&|b| assert_eq!(Ours.code_plane(settings, plane, b), 0));
+    let ours = time(&|b| assert_eq!(OURS.code_plane(settings, plane, b), 0));
     // The Rust's own function: its streams go into vectors that grow.
     let [sse2, portable] = PATHS.map(|path| {
         let rust = Rust::new(path);
@@ -191,7 +191,7 @@ fn coding<T: Made>(name: &str, settings: Settings, plane: &Plane<T>) {
 /// The streams end where the plane's last code does, as in a frame.
 fn coded<T: Made>(settings: Settings, planes: &[Plane<T>]) -> Buffers {
     let mut b = room(planes.iter().map(|p| p.1).sum());
-    assert_eq!(Ours.code_slice(settings, planes, &mut b), 0);
+    assert_eq!(OURS.code_slice(settings, planes, &mut b), 0);
     b.dc.truncate(b.dc_at);
     b.ac.truncate(b.ac_at);
     (b.dc_at, b.ac_at) = (0, 0);
@@ -203,7 +203,7 @@ fn reading<T: Made>(name: &str, settings: Settings, plane: &Plane<T>) {
     let mut rows = plane.clone();
     let ours = best(plane.1 / 4, || {
         (b.dc_at, b.ac_at) = (0, 0);
-        assert_eq!(Ours.read_plane(settings, black_box(&mut rows), &mut b), 0);
+        assert_eq!(OURS.read_plane(settings, black_box(&mut rows), &mut b), 0);
     });
     let [sse2, portable] = PATHS.map(|path| {
         let rust = Rust::new(path);
@@ -220,19 +220,18 @@ fn slices<T: Made>(depth: &str) {
     let mut b = room(3840);
     let ours = best(blocks, || {
         (b.dc_at, b.ac_at) = (0, 0);
-        assert_eq!(code_counted(settings, 3, &mut planes.clone(), black_box(&mut b)), 0);
+        assert_eq!(OURS.code_slice(settings, &planes, black_box(&mut b)), 0);
     });
-    let copying = best(blocks, || drop(black_box(planes.clone())));
     let [sse2, portable] = PATHS.map(|path| {
         let rust = Rust::new(path);
         best(blocks, || planes.iter().for_each(|p| drop(black_box(rust.streams(settings, p)))))
     });
-    line(&format!("block of a slice of three planes coded, {depth}, preset 8"), ours - copying, sse2, Some(portable));
+    line(&format!("block of a slice of three planes coded, {depth}, preset 8"), ours, sse2, Some(portable));
     let mut b = coded(settings, &planes);
     let mut rows = planes.clone();
     let ours = best(blocks, || {
         (b.dc_at, b.ac_at) = (0, 0);
-        assert_eq!(Ours.read_slice(settings, black_box(&mut rows), &mut b), 0);
+        assert_eq!(OURS.read_slice(settings, black_box(&mut rows), &mut b), 0);
     });
     let [sse2, portable] = PATHS.map(|path| {
         let rust = Rust::new(path);
@@ -259,10 +258,10 @@ fn alone<T: Made>(depth: &str) {
             assert_eq!(who(&mut x, &mut y, &mut flat, black_box(&mut b)), 0);
         })
     };
-    let ours = time(&mut |x, y, _, b| Ours.preview(0, 0, 1920, [x, y], b));
+    let ours = time(&mut |x, y, _, b| OURS.preview(0, 0, 1920, [x, y], b));
     let theirs = time(&mut |x, y, _, b| rust.preview_in_place(0, 0, 1920, [x, y], b));
     line(&format!("block previewed, {depth}"), ours, theirs, None);
-    let ours = time(&mut |_, _, f, b| Ours.block_report(1920, f, b));
+    let ours = time(&mut |_, _, f, b| OURS.block_report(1920, f, b));
     let theirs = time(&mut |_, _, f, b| rust.block_report(1920, f, b));
     line(&format!("block reported, {depth}"), ours, theirs, None);
 }

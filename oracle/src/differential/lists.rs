@@ -5,7 +5,7 @@ use super::Run;
 use crate::calls::{Buffers, Calls, Plane, Rust};
 use crate::gen::planes::{self, Made};
 use crate::gen::{streams, Rng};
-use crate::ours::planes::Ours;
+use crate::ours::planes::GUARDED;
 use crate::questions::{self, Settings};
 use reference::api::Path;
 
@@ -15,8 +15,8 @@ pub fn run(run: &mut Run) {
     while run.more() {
         for _ in 0..10 {
             for _ in 0..3 {
-                both::<u8>(run, &rust, &Ours, "8-bit");
-                both::<u16>(run, &rust, &Ours, "10-bit");
+                both::<u8>(run, &rust, &GUARDED, "8-bit");
+                both::<u16>(run, &rust, &GUARDED, "10-bit");
             }
             both::<u8>(run, &rust, &portable, "8-bit");
             both::<u16>(run, &rust, &portable, "10-bit");
@@ -153,7 +153,13 @@ fn whole<T: Made>(run: &mut Run, rust: &Rust, other: &impl Calls, depth: &str) {
     let mut b = Buffers { dc, dc_at: start.dc_at, ac, ac_at: start.ac_at };
     let mut c = b.clone();
     for call in accepted {
-        let mut turns = vec![call.held(&mut run.rng)];
+        let held = call.held(&mut run.rng);
+        // A slice stands for its planes in order: at times they are read one by one.
+        let mut turns = if held.slice && run.rng.once_in(3) {
+            held.planes.into_iter().map(|p| Call { settings: held.settings, planes: vec![p], slice: false }).collect()
+        } else {
+            vec![held]
+        };
         if run.rng.once_in(4) {
             turns.insert(0, call.held(&mut run.rng).spoilt(&mut run.rng));
         }

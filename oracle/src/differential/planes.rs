@@ -6,15 +6,15 @@ use crate::calls::{coding_number, reading_number, Buffers, Calls, Plane, PlaneCo
 use crate::gen::planes::{self, Made};
 use crate::gen::streams::{self, Reading};
 use crate::gen::Rng;
-use crate::ours::planes::{self as ours, Ours};
+use crate::ours::planes::{self as ours, GUARDED};
 use crate::questions::{self, Settings};
 use reference::api::Path;
 
 pub fn run(run: &mut Run) {
     let rust = Rust::new(Path::Sse2);
     let portable = Rust::new(Path::Portable);
-    far_coding::<u8>(run, &rust, &Ours);
-    far_reading::<u8>(run, &rust, &Ours);
+    far_coding::<u8>(run, &rust, &GUARDED);
+    far_reading::<u8>(run, &rust, &GUARDED);
     counts::<u8>(run);
     counts::<u16>(run);
     sizes(run);
@@ -28,10 +28,10 @@ pub fn run(run: &mut Run) {
 
 fn both<T: Made>(run: &mut Run, rust: &Rust, portable: &Rust, depth: &str) {
     for _ in 0..3 {
-        coded::<T>(run, rust, &Ours, depth);
-        coding_refused::<T>(run, rust, &Ours);
-        read::<T>(run, rust, &Ours, depth);
-        reading_refused::<T>(run, rust, &Ours);
+        coded::<T>(run, rust, &GUARDED, depth);
+        coding_refused::<T>(run, rust, &GUARDED);
+        read::<T>(run, rust, &GUARDED, depth);
+        reading_refused::<T>(run, rust, &GUARDED);
     }
     // The Rust's own two paths.
     coded::<T>(run, rust, portable, depth);
@@ -241,13 +241,14 @@ fn counts<T: Made>(run: &mut Run) {
     let before = Buffers { dc: vec![0x5A; most_dc], dc_at: 0, ac: vec![0x5A; most_ac], ac_at: 0 };
     for count in [0, 1, 2, 3, 4, 5, 6, 255, 256, 260, 1 << 32, (1 << 32) + 1, usize::MAX] {
         let wanted = if (1..=4).contains(&count) { 0 } else { 3 };
-        let (mut p, mut b) = (planes.clone(), before.clone());
-        let coded = ours::code_counted(settings, count, &mut p, &mut b);
+        let (p, mut b) = (planes.clone(), before.clone());
+        let coded = GUARDED.code_counted(settings, count, &p, &mut b);
         let moved = b != before;
         let (mut q, mut c) = (planes.clone(), before.clone());
-        let read = ours::read_counted(settings, count, &mut q, &mut c);
+        let read = GUARDED.read_counted(settings, count, &mut q, &mut c);
         let changed = q != planes || c != before;
-        run.report.check(kind, coded == wanted && read == wanted && moved == (wanted == 0) && changed == (wanted == 0), 0, || {
+        let above = q.iter().zip(&planes).skip(count).all(|(x, y)| x == y);
+        run.report.check(kind, coded == wanted && read == wanted && moved == (wanted == 0) && changed == (wanted == 0) && above, 0, || {
             format!("count {count}: {coded} and {read}, wanted {wanted}")
         });
     }

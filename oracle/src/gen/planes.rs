@@ -140,12 +140,6 @@ pub enum Rows<'a> {
     Ten(&'a [u16]),
 }
 
-/// The samples of a plane that is written.
-pub enum RowsMut<'a> {
-    Eight(&'a mut [u8]),
-    Ten(&'a mut [u16]),
-}
-
 /// A sample type, and how a plane of it is made from lane values.
 pub trait Made: reference::api::slice::Sample + Copy {
     const MAX: u16;
@@ -153,7 +147,6 @@ pub trait Made: reference::api::slice::Sample + Copy {
     fn any(rng: &mut Rng) -> Self;
     /// The samples by their depth.
     fn rows(rows: &[Self]) -> Rows<'_>;
-    fn rows_mut(rows: &mut [Self]) -> RowsMut<'_>;
 }
 
 impl Made for u8 {
@@ -166,9 +159,6 @@ impl Made for u8 {
     }
     fn rows(rows: &[u8]) -> Rows<'_> {
         Rows::Eight(rows)
-    }
-    fn rows_mut(rows: &mut [u8]) -> RowsMut<'_> {
-        RowsMut::Eight(rows)
     }
 }
 
@@ -183,9 +173,6 @@ impl Made for u16 {
     }
     fn rows(rows: &[u16]) -> Rows<'_> {
         Rows::Ten(rows)
-    }
-    fn rows_mut(rows: &mut [u16]) -> RowsMut<'_> {
-        RowsMut::Ten(rows)
     }
 }
 

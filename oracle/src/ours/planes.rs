@@ -1,7 +1,8 @@
 //! The calls on planes and slices, through the library that programs link (include/vmx.h).
 
 use crate::calls::{Buffers, Calls, Plane, PlaneCoder};
-use crate::gen::planes::{Made, Rows, RowsMut};
+use crate::gen::planes::{Made, Rows};
+use crate::gen::Rng;
 use crate::questions::Settings;
 use std::ptr::NonNull;
 
@@ -46,8 +47,14 @@ extern "C" {
     fn vmx_slice_size(count: usize, s0: usize, s1: usize, s2: usize, s3: usize, dc: *mut usize, ac: *mut usize) -> u32;
 }
 
-/// Our static library.
-pub struct Ours;
+/// Our static library. With guards, what is lent to be written lies between samples or bytes that must stay.
+#[derive(Clone, Copy)]
+pub struct Ours {
+    pub guards: bool,
+}
+
+pub const OURS: Ours = Ours { guards: false };
+pub const GUARDED: Ours = Ours { guards: true };
 
 /// Number and lengths of the size call for one plane.
 pub fn plane_size(stride: usize) -> (u32, usize, usize) {
@@ -63,56 +70,101 @@ pub fn slice_size(count: usize, s: [usize; 4]) -> (u32, usize, usize) {
     (number, dc, ac)
 }
 
-/// Where a plane's rows lie, how many samples they are, and the stride; planes that are not there have none.
-fn lent<T: Made>(planes: &mut [Plane<T>]) -> [(*mut T, usize, usize); 4] {
-    let mut all = [(NonNull::dangling().as_ptr(), 0, 0); 4];
-    for (a, (_, stride, rows)) in all.iter_mut().zip(planes) {
-        *a = (rows.as_mut_ptr(), rows.len(), *stride);
+/// How many samples or bytes stand guard on each side.
+const GUARD: usize = 64;
+
+/// Memory lent to be written, if asked for between guards.
+struct Lent<'a, T: Made> {
+    own: &'a mut [T],
+    copy: Vec<T>,
+}
+
+impl<'a, T: Made> Lent<'a, T> {
+    fn new(own: &'a mut [T], guards: bool) -> Self {
+        let mut copy = vec![];
+        if guards {
+            copy.extend(Self::guard());
+            copy.extend_from_slice(own);
+            copy.extend(Self::guard());
+        }
+        Lent { own, copy }
     }
+
+    fn guard() -> Vec<T> {
+        let mut rng = Rng::new(GUARD as u64);
+        (0..GUARD).map(|_| T::any(&mut rng)).collect()
+    }
+
+    fn at(&mut self) -> *mut T {
+        if self.copy.is_empty() { self.own.as_mut_ptr() } else { self.copy[GUARD..].as_mut_ptr() }
+    }
+
+    fn back(self) {
+        if let Some((before, rest)) = self.copy.split_at_checked(GUARD) {
+            let (lent, behind) = rest.split_at(self.own.len());
+            assert!(before == Self::guard() && behind == Self::guard(), "a call wrote outside what it was lent");
+            self.own.copy_from_slice(lent);
+        }
+    }
+}
+
+/// Where rows lie, how many samples they are, and the stride; planes that are not there have none.
+type Place<T> = (*mut T, usize, usize);
+
+fn places<T: Made>(found: impl Iterator<Item = Place<T>>) -> [Place<T>; 4] {
+    let mut all = [(NonNull::dangling().as_ptr(), 0, 0); 4];
+    all.iter_mut().zip(found).for_each(|(a, f)| *a = f);
     all
 }
 
-/// Codes the first `count` planes, whatever that number is.
-pub fn code_counted<T: Made>(s: Settings, count: usize, planes: &mut [Plane<T>], b: &mut Buffers) -> u32 {
-    let (dc, dn, ac, an) = (b.dc.as_mut_ptr(), b.dc.len(), b.ac.as_mut_ptr(), b.ac.len());
-    let (d, a) = (&mut b.dc_at, &mut b.ac_at);
-    let [p, q, r, t] = lent(planes);
-    let (n, preset, shift) = (count, s.preset, s.dc_shift);
-    macro_rules! call {
-        ($f:ident) => {
-            $f(
-                p.0.cast(), p.1, p.2, q.0.cast(), q.1, q.2, r.0.cast(), r.1, r.2, t.0.cast(), t.1, t.2, n, preset, shift,
-                dc, dn, d, ac, an, a,
-            )
-        };
-    }
-    unsafe {
-        match T::rows(&[]) {
-            Rows::Eight(_) => call!(vmx_encode_slice8),
-            Rows::Ten(_) => call!(vmx_encode_slice10),
+impl Ours {
+    /// Codes the first `count` planes, whatever that number is.
+    pub fn code_counted<T: Made>(&self, s: Settings, count: usize, planes: &[Plane<T>], b: &mut Buffers) -> u32 {
+        let (mut dc, mut ac) = (Lent::new(&mut b.dc, self.guards), Lent::new(&mut b.ac, self.guards));
+        let (d, dn, a, an) = (dc.at(), dc.own.len(), ac.at(), ac.own.len());
+        let (d_at, a_at) = (&mut b.dc_at, &mut b.ac_at);
+        let [p, q, r, t] = places(planes.iter().map(|(_, stride, rows)| (rows.as_ptr() as *mut T, rows.len(), *stride)));
+        macro_rules! call {
+            ($f:ident) => {
+                $f(
+                    p.0.cast(), p.1, p.2, q.0.cast(), q.1, q.2, r.0.cast(), r.1, r.2, t.0.cast(), t.1, t.2, count, s.preset,
+                    s.dc_shift, d, dn, d_at, a, an, a_at,
+                )
+            };
         }
+        let number = unsafe {
+            match T::rows(&[]) {
+                Rows::Eight(_) => call!(vmx_encode_slice8),
+                Rows::Ten(_) => call!(vmx_encode_slice10),
+            }
+        };
+        dc.back();
+        ac.back();
+        number
     }
-}
 
-/// Reads the first `count` planes, whatever that number is.
-pub fn read_counted<T: Made>(s: Settings, count: usize, planes: &mut [Plane<T>], b: &mut Buffers) -> u32 {
-    let (dc, dn, ac, an) = (b.dc.as_ptr(), b.dc.len(), b.ac.as_ptr(), b.ac.len());
-    let (d, a) = (&mut b.dc_at, &mut b.ac_at);
-    let (n, preset, shift) = (count, s.preset, s.dc_shift);
-    let [p, q, r, t] = lent(planes);
-    macro_rules! call {
-        ($f:ident) => {
-            $f(
-                p.0.cast(), p.1, p.2, q.0.cast(), q.1, q.2, r.0.cast(), r.1, r.2, t.0.cast(), t.1, t.2, n, preset, shift,
-                dc, dn, d, ac, an, a,
-            )
-        };
-    }
-    unsafe {
-        match T::rows(&[]) {
-            Rows::Eight(_) => call!(vmx_decode_slice8),
-            Rows::Ten(_) => call!(vmx_decode_slice10),
+    /// Reads the first `count` planes, whatever that number is.
+    pub fn read_counted<T: Made>(&self, s: Settings, count: usize, planes: &mut [Plane<T>], b: &mut Buffers) -> u32 {
+        let (d, dn, a, an) = (b.dc.as_ptr(), b.dc.len(), b.ac.as_ptr(), b.ac.len());
+        let (d_at, a_at) = (&mut b.dc_at, &mut b.ac_at);
+        let mut lent: Vec<(Lent<T>, usize)> = planes.iter_mut().map(|p| (Lent::new(&mut p.2, self.guards), p.1)).collect();
+        let [p, q, r, t] = places(lent.iter_mut().map(|(l, stride)| (l.at(), l.own.len(), *stride)));
+        macro_rules! call {
+            ($f:ident) => {
+                $f(
+                    p.0.cast(), p.1, p.2, q.0.cast(), q.1, q.2, r.0.cast(), r.1, r.2, t.0.cast(), t.1, t.2, count, s.preset,
+                    s.dc_shift, d, dn, d_at, a, an, a_at,
+                )
+            };
         }
+        let number = unsafe {
+            match T::rows(&[]) {
+                Rows::Eight(_) => call!(vmx_decode_slice8),
+                Rows::Ten(_) => call!(vmx_decode_slice10),
+            }
+        };
+        lent.into_iter().for_each(|(l, _)| l.back());
+        number
     }
 }
 
@@ -122,59 +174,74 @@ impl PlaneCoder for Ours {
     }
 
     fn code_plane<T: Made>(&self, s: Settings, (place, stride, rows): &Plane<T>, b: &mut Buffers) -> u32 {
-        let (dc, dn, ac, an) = (b.dc.as_mut_ptr(), b.dc.len(), b.ac.as_mut_ptr(), b.ac.len());
+        let (mut dc, mut ac) = (Lent::new(&mut b.dc, self.guards), Lent::new(&mut b.ac, self.guards));
+        let (d, dn, a, an) = (dc.at(), dc.own.len(), ac.at(), ac.own.len());
         let (place, stride, n) = (*place, *stride, rows.len());
-        let (d, a) = (&mut b.dc_at, &mut b.ac_at);
-        unsafe {
+        let (d_at, a_at) = (&mut b.dc_at, &mut b.ac_at);
+        let number = unsafe {
             match T::rows(rows) {
                 Rows::Eight(r) => {
-                    vmx_encode_plane8(r.as_ptr(), n, stride, place, s.preset, s.dc_shift, dc, dn, d, ac, an, a)
+                    vmx_encode_plane8(r.as_ptr(), n, stride, place, s.preset, s.dc_shift, d, dn, d_at, a, an, a_at)
                 }
                 Rows::Ten(r) => {
-                    vmx_encode_plane10(r.as_ptr(), n, stride, place, s.preset, s.dc_shift, dc, dn, d, ac, an, a)
+                    vmx_encode_plane10(r.as_ptr(), n, stride, place, s.preset, s.dc_shift, d, dn, d_at, a, an, a_at)
                 }
             }
-        }
+        };
+        dc.back();
+        ac.back();
+        number
     }
 }
 
 impl Calls for Ours {
     fn code_slice<T: Made>(&self, s: Settings, planes: &[Plane<T>], b: &mut Buffers) -> u32 {
-        code_counted(s, planes.len(), &mut planes.to_vec(), b)
+        self.code_counted(s, planes.len(), planes, b)
     }
+
     fn read_plane<T: Made>(&self, s: Settings, (place, stride, rows): &mut Plane<T>, b: &mut Buffers) -> u32 {
-        let (dc, dn, ac, an) = (b.dc.as_ptr(), b.dc.len(), b.ac.as_ptr(), b.ac.len());
+        let (d, dn, a, an) = (b.dc.as_ptr(), b.dc.len(), b.ac.as_ptr(), b.ac.len());
         let (place, stride, n) = (*place, *stride, rows.len());
-        let (d, a) = (&mut b.dc_at, &mut b.ac_at);
-        unsafe {
-            match T::rows_mut(rows) {
-                RowsMut::Eight(r) => {
-                    vmx_decode_plane8(r.as_mut_ptr(), n, stride, place, s.preset, s.dc_shift, dc, dn, d, ac, an, a)
+        let (d_at, a_at) = (&mut b.dc_at, &mut b.ac_at);
+        let mut lent = Lent::new(rows, self.guards);
+        let r = lent.at();
+        let number = unsafe {
+            match T::rows(&[]) {
+                Rows::Eight(_) => {
+                    vmx_decode_plane8(r.cast(), n, stride, place, s.preset, s.dc_shift, d, dn, d_at, a, an, a_at)
                 }
-                RowsMut::Ten(r) => {
-                    vmx_decode_plane10(r.as_mut_ptr(), n, stride, place, s.preset, s.dc_shift, dc, dn, d, ac, an, a)
+                Rows::Ten(_) => {
+                    vmx_decode_plane10(r.cast(), n, stride, place, s.preset, s.dc_shift, d, dn, d_at, a, an, a_at)
                 }
             }
-        }
+        };
+        lent.back();
+        number
     }
 
     fn read_slice<T: Made>(&self, s: Settings, planes: &mut [Plane<T>], b: &mut Buffers) -> u32 {
-        read_counted(s, planes.len(), planes, b)
+        self.read_counted(s, planes.len(), planes, b)
     }
 
     fn preview(&self, dc_shift: u32, place: usize, stride: usize, out: [&mut [u8]; 2], b: &mut Buffers) -> u32 {
-        let [x, y] = out;
+        let [x, y] = out.map(|o| Lent::new(o, self.guards));
+        let (mut x, mut y) = (x, y);
         // The call takes a place of 32 bits: what does not fit is above 3 as well.
         let place = u32::try_from(place).unwrap_or(u32::MAX);
-        unsafe {
+        let number = unsafe {
             vmx_preview(
-                dc_shift, place, stride, x.as_mut_ptr(), x.len(), y.as_mut_ptr(), y.len(), b.dc.as_ptr(), b.dc.len(),
-                &mut b.dc_at,
+                dc_shift, place, stride, x.at(), x.own.len(), y.at(), y.own.len(), b.dc.as_ptr(), b.dc.len(), &mut b.dc_at,
             )
-        }
+        };
+        x.back();
+        y.back();
+        number
     }
 
     fn block_report(&self, stride: usize, out: &mut [u8], b: &mut Buffers) -> u32 {
-        unsafe { vmx_block_report(stride, out.as_mut_ptr(), out.len(), b.ac.as_ptr(), b.ac.len(), &mut b.ac_at) }
+        let mut out = Lent::new(out, self.guards);
+        let number = unsafe { vmx_block_report(stride, out.at(), out.own.len(), b.ac.as_ptr(), b.ac.len(), &mut b.ac_at) };
+        out.back();
+        number
     }
 }
