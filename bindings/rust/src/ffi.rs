@@ -1,0 +1,409 @@
+//! The calls of include/vmx.h, and the only unsafe code of this crate.
+//!
+//! Each function here passes Rust's slices and references on as pointers with counts. That is safe for any arguments:
+//! the calls are proved for all of them, a slice's pointer is never null and has so many elements, and what is lent
+//! with `&mut` overlaps nothing else that is lent in the same call.
+
+use crate::refused::{Refused, Verdict};
+
+type Byte = *const u8;
+type ByteMut = *mut u8;
+type At = *mut usize;
+
+pub type EncodePlane<S> =
+    unsafe extern "C" fn(*const S, usize, usize, usize, usize, u32, ByteMut, usize, At, ByteMut, usize, At) -> u32;
+pub type DecodePlane<S> =
+    unsafe extern "C" fn(*mut S, usize, usize, usize, usize, u32, Byte, usize, At, Byte, usize, At) -> u32;
+#[rustfmt::skip]
+pub type EncodeSlice<S> = unsafe extern "C" fn(
+    *const S, usize, usize, *const S, usize, usize, *const S, usize, usize, *const S, usize, usize,
+    usize, usize, u32, ByteMut, usize, At, ByteMut, usize, At,
+) -> u32;
+#[rustfmt::skip]
+pub type DecodeSlice<S> = unsafe extern "C" fn(
+    *mut S, usize, usize, *mut S, usize, usize, *mut S, usize, usize, *mut S, usize, usize,
+    usize, usize, u32, Byte, usize, At, Byte, usize, At,
+) -> u32;
+
+#[rustfmt::skip]
+extern "C" {
+    fn vmx_layout(width: usize, height: usize, aligned_height: At, slices: At, luma: At, chroma: At, max_dc_len: At,
+        max_ac_len: At) -> u32;
+    fn vmx_interlace_capable(height: usize) -> u32;
+    fn vmx_image_row(height: usize, r: usize, interlaced: u32, row: At) -> u32;
+    fn vmx_preview_width(width: usize) -> usize;
+    fn vmx_preview_height(height: usize, interlaced: u32) -> usize;
+    fn vmx_quality_preset(quality: u8, kept: ByteMut, preset: At);
+    fn vmx_parse(width: usize, height: usize, frame: Byte, frame_len: usize, interlaced: *mut u32, quality: *mut u32,
+        dc_shift: *mut u32, header_len: At, ac: *mut u32) -> u32;
+    fn vmx_stream(width: usize, height: usize, frame: Byte, frame_len: usize, ac: u32, slice: usize, offset: At,
+        len: At) -> u32;
+    fn vmx_frame_start(width: usize, height: usize, interlaced: u32, quality: u8, dc_shift: u32, out: ByteMut,
+        out_len: usize, slices: At, max_dc_len: At, max_ac_len: At, ac_turn: *mut u32, next: At, at: At) -> u32;
+    fn vmx_frame_put(slices: usize, max_dc_len: usize, max_ac_len: usize, ac: u32, slice: usize, stream: Byte,
+        stream_len: usize, out: ByteMut, out_len: usize, ac_turn: *mut u32, next: At, at: At) -> u32;
+    fn vmx_shown_rows(new_len: usize, held_len: usize, stride: usize, slice: usize, verdict: u32, from_new: *mut u32,
+        offset: At, len: At) -> u32;
+    fn vmx_shown_time(new_time: u64, held_time: u64, verdict: u32) -> u64;
+
+    pub fn vmx_encode_plane8(rows: *const u8, rows_len: usize, stride: usize, place: usize, preset: usize, shift: u32,
+        dc: ByteMut, dc_len: usize, dc_at: At, ac: ByteMut, ac_len: usize, ac_at: At) -> u32;
+    pub fn vmx_encode_plane10(rows: *const u16, rows_len: usize, stride: usize, place: usize, preset: usize,
+        shift: u32, dc: ByteMut, dc_len: usize, dc_at: At, ac: ByteMut, ac_len: usize, ac_at: At) -> u32;
+    pub fn vmx_decode_plane8(rows: *mut u8, rows_len: usize, stride: usize, place: usize, preset: usize, shift: u32,
+        dc: Byte, dc_len: usize, dc_at: At, ac: Byte, ac_len: usize, ac_at: At) -> u32;
+    pub fn vmx_decode_plane10(rows: *mut u16, rows_len: usize, stride: usize, place: usize, preset: usize, shift: u32,
+        dc: Byte, dc_len: usize, dc_at: At, ac: Byte, ac_len: usize, ac_at: At) -> u32;
+    pub fn vmx_encode_slice8(p0: *const u8, p0_len: usize, stride0: usize, p1: *const u8, p1_len: usize,
+        stride1: usize, p2: *const u8, p2_len: usize, stride2: usize, p3: *const u8, p3_len: usize, stride3: usize,
+        count: usize, preset: usize, shift: u32, dc: ByteMut, dc_len: usize, dc_at: At, ac: ByteMut, ac_len: usize,
+        ac_at: At) -> u32;
+    pub fn vmx_encode_slice10(p0: *const u16, p0_len: usize, stride0: usize, p1: *const u16, p1_len: usize,
+        stride1: usize, p2: *const u16, p2_len: usize, stride2: usize, p3: *const u16, p3_len: usize, stride3: usize,
+        count: usize, preset: usize, shift: u32, dc: ByteMut, dc_len: usize, dc_at: At, ac: ByteMut, ac_len: usize,
+        ac_at: At) -> u32;
+    pub fn vmx_decode_slice8(p0: *mut u8, p0_len: usize, stride0: usize, p1: *mut u8, p1_len: usize, stride1: usize,
+        p2: *mut u8, p2_len: usize, stride2: usize, p3: *mut u8, p3_len: usize, stride3: usize, count: usize,
+        preset: usize, shift: u32, dc: Byte, dc_len: usize, dc_at: At, ac: Byte, ac_len: usize, ac_at: At) -> u32;
+    pub fn vmx_decode_slice10(p0: *mut u16, p0_len: usize, stride0: usize, p1: *mut u16, p1_len: usize,
+        stride1: usize, p2: *mut u16, p2_len: usize, stride2: usize, p3: *mut u16, p3_len: usize, stride3: usize,
+        count: usize, preset: usize, shift: u32, dc: Byte, dc_len: usize, dc_at: At, ac: Byte, ac_len: usize,
+        ac_at: At) -> u32;
+    fn vmx_preview(shift: u32, place: u32, stride: usize, upper: ByteMut, upper_len: usize, lower: ByteMut,
+        lower_len: usize, dc: Byte, dc_len: usize, dc_at: At) -> u32;
+    fn vmx_block_report(stride: usize, report: ByteMut, report_len: usize, ac: Byte, ac_len: usize, ac_at: At) -> u32;
+    fn vmx_plane_size(stride: usize, dc_len: At, ac_len: At) -> u32;
+    fn vmx_slice_size(count: usize, stride0: usize, stride1: usize, stride2: usize, stride3: usize, dc_len: At,
+        ac_len: At) -> u32;
+}
+
+/// A number as a verdict. The library answers 0 to 14.
+fn verdict(number: u32) -> Verdict {
+    match Refused::from_number(number) {
+        Some(refused) => Err(refused),
+        None => {
+            assert!(number == 0, "libvmx.a answered {number}, which this crate does not know");
+            Ok(())
+        }
+    }
+}
+
+/// A verdict as a number.
+fn number(verdict: Verdict) -> u32 {
+    verdict.map_or_else(Refused::number, |()| 0)
+}
+
+#[derive(Default)]
+pub struct Geometry {
+    pub aligned_height: usize,
+    pub slices: usize,
+    pub luma: usize,
+    pub chroma: usize,
+    pub max_dc_len: usize,
+    pub max_ac_len: usize,
+}
+
+pub fn layout(width: usize, height: usize) -> Result<Geometry, Refused> {
+    let mut g = Geometry::default();
+    // SAFETY: six places of our own.
+    verdict(unsafe {
+        vmx_layout(
+            width,
+            height,
+            &mut g.aligned_height,
+            &mut g.slices,
+            &mut g.luma,
+            &mut g.chroma,
+            &mut g.max_dc_len,
+            &mut g.max_ac_len,
+        )
+    })?;
+    Ok(g)
+}
+
+pub fn interlace_capable(height: usize) -> bool {
+    // SAFETY: no memory is lent.
+    unsafe { vmx_interlace_capable(height) != 0 }
+}
+
+pub fn image_row(height: usize, r: usize, interlaced: bool) -> Option<usize> {
+    let mut row = 0;
+    // SAFETY: one place of our own.
+    let there = unsafe { vmx_image_row(height, r, interlaced.into(), &mut row) };
+    (there != 0).then_some(row)
+}
+
+pub fn preview_size(width: usize, height: usize, interlaced: bool) -> (usize, usize) {
+    // SAFETY: no memory is lent.
+    unsafe { (vmx_preview_width(width), vmx_preview_height(height, interlaced.into())) }
+}
+
+pub fn quality_preset(quality: u8) -> (u8, usize) {
+    let (mut kept, mut preset) = (0, 0);
+    // SAFETY: two places of our own.
+    unsafe { vmx_quality_preset(quality, &mut kept, &mut preset) };
+    (kept, preset)
+}
+
+#[derive(Default)]
+pub struct Header {
+    pub interlaced: u32,
+    pub quality: u32,
+    pub dc_shift: u32,
+    pub header_len: usize,
+    pub ac: u32,
+}
+
+pub fn parse(width: usize, height: usize, frame: &[u8]) -> Result<Header, Refused> {
+    let mut h = Header::default();
+    // SAFETY: the frame is a slice, the places are our own.
+    verdict(unsafe {
+        vmx_parse(
+            width,
+            height,
+            frame.as_ptr(),
+            frame.len(),
+            &mut h.interlaced,
+            &mut h.quality,
+            &mut h.dc_shift,
+            &mut h.header_len,
+            &mut h.ac,
+        )
+    })?;
+    Ok(h)
+}
+
+pub fn stream(width: usize, height: usize, frame: &[u8], ac: bool, slice: usize) -> Result<(usize, usize), Refused> {
+    let (mut offset, mut len) = (0, 0);
+    // SAFETY: the frame is a slice, the places are our own.
+    verdict(unsafe {
+        vmx_stream(width, height, frame.as_ptr(), frame.len(), ac.into(), slice, &mut offset, &mut len)
+    })?;
+    Ok((offset, len))
+}
+
+/// The six numbers of a builder.
+#[derive(Clone, Copy, Debug, Default)]
+pub struct Build {
+    pub slices: usize,
+    pub max_dc_len: usize,
+    pub max_ac_len: usize,
+    pub ac_turn: u32,
+    pub next: usize,
+    pub at: usize,
+}
+
+pub fn frame_start(
+    (width, height): (usize, usize),
+    interlaced: bool,
+    quality: u8,
+    dc_shift: u32,
+    out: &mut [u8],
+    at: usize,
+) -> Result<Build, Refused> {
+    let mut b = Build { at, ..Build::default() };
+    // SAFETY: the buffer is a slice, the places are our own.
+    verdict(unsafe {
+        vmx_frame_start(
+            width,
+            height,
+            interlaced.into(),
+            quality,
+            dc_shift,
+            out.as_mut_ptr(),
+            out.len(),
+            &mut b.slices,
+            &mut b.max_dc_len,
+            &mut b.max_ac_len,
+            &mut b.ac_turn,
+            &mut b.next,
+            &mut b.at,
+        )
+    })?;
+    Ok(b)
+}
+
+pub fn frame_put(b: &mut Build, ac: bool, slice: usize, stream: &[u8], out: &mut [u8]) -> Verdict {
+    // SAFETY: stream and buffer are slices that do not overlap, the places are three fields of one struct.
+    verdict(unsafe {
+        vmx_frame_put(
+            b.slices,
+            b.max_dc_len,
+            b.max_ac_len,
+            ac.into(),
+            slice,
+            stream.as_ptr(),
+            stream.len(),
+            out.as_mut_ptr(),
+            out.len(),
+            &mut b.ac_turn,
+            &mut b.next,
+            &mut b.at,
+        )
+    })
+}
+
+/// Whether the rows lie in the new picture, and their offset and length.
+pub fn shown_rows(
+    new_len: usize,
+    held_len: usize,
+    stride: usize,
+    slice: usize,
+    judged: Verdict,
+) -> Result<(bool, usize, usize), Refused> {
+    let (mut from_new, mut offset, mut len) = (0, 0, 0);
+    // SAFETY: three places of our own.
+    verdict(unsafe {
+        vmx_shown_rows(new_len, held_len, stride, slice, number(judged), &mut from_new, &mut offset, &mut len)
+    })?;
+    Ok((from_new != 0, offset, len))
+}
+
+pub fn shown_time(new_time: u64, held_time: u64, judged: Verdict) -> u64 {
+    // SAFETY: no memory is lent.
+    unsafe { vmx_shown_time(new_time, held_time, number(judged)) }
+}
+
+/// A stream that is written: a lent buffer and the place of the next byte.
+pub type Out<'a> = (&'a mut [u8], &'a mut usize);
+/// A stream that is read.
+pub type In<'a> = (&'a [u8], &'a mut usize);
+
+/// Preset and DC shift.
+pub type Settings = (usize, u32);
+
+pub fn encode_plane<S>(
+    call: EncodePlane<S>,
+    (rows, stride, place): (&[S], usize, usize),
+    (preset, shift): Settings,
+    (dc, dc_at): Out,
+    (ac, ac_at): Out,
+) -> Verdict {
+    let (r, n) = (rows.as_ptr(), rows.len());
+    let (d, dn, a, an) = (dc.as_mut_ptr(), dc.len(), ac.as_mut_ptr(), ac.len());
+    // SAFETY: rows and buffers are slices, no two of them overlap, the positions are two numbers apart from them.
+    verdict(unsafe { call(r, n, stride, place, preset, shift, d, dn, dc_at, a, an, ac_at) })
+}
+
+pub fn decode_plane<S>(
+    call: DecodePlane<S>,
+    (rows, stride, place): (&mut [S], usize, usize),
+    (preset, shift): Settings,
+    (dc, dc_at): In,
+    (ac, ac_at): In,
+) -> Verdict {
+    let (r, n) = (rows.as_mut_ptr(), rows.len());
+    let (d, dn, a, an) = (dc.as_ptr(), dc.len(), ac.as_ptr(), ac.len());
+    // SAFETY: rows and streams are slices, the rows overlap no other memory that is lent, the positions are two
+    // numbers apart from them. The two streams are only read and may overlap.
+    verdict(unsafe { call(r, n, stride, place, preset, shift, d, dn, dc_at, a, an, ac_at) })
+}
+
+/// Four planes (rows, stride); the library looks at the first `count`.
+pub fn encode_slice<S>(
+    call: EncodeSlice<S>,
+    [p0, p1, p2, p3]: [(&[S], usize); 4],
+    count: usize,
+    (preset, shift): Settings,
+    (dc, dc_at): Out,
+    (ac, ac_at): Out,
+) -> Verdict {
+    let (d, dn, a, an) = (dc.as_mut_ptr(), dc.len(), ac.as_mut_ptr(), ac.len());
+    // SAFETY: as for a plane; the planes' rows are only read.
+    verdict(unsafe {
+        call(
+            p0.0.as_ptr(),
+            p0.0.len(),
+            p0.1,
+            p1.0.as_ptr(),
+            p1.0.len(),
+            p1.1,
+            p2.0.as_ptr(),
+            p2.0.len(),
+            p2.1,
+            p3.0.as_ptr(),
+            p3.0.len(),
+            p3.1,
+            count,
+            preset,
+            shift,
+            d,
+            dn,
+            dc_at,
+            a,
+            an,
+            ac_at,
+        )
+    })
+}
+
+/// Four planes (rows, stride); the library looks at the first `count`.
+pub fn decode_slice<S>(
+    call: DecodeSlice<S>,
+    [p0, p1, p2, p3]: [(&mut [S], usize); 4],
+    count: usize,
+    (preset, shift): Settings,
+    (dc, dc_at): In,
+    (ac, ac_at): In,
+) -> Verdict {
+    let (d, dn, a, an) = (dc.as_ptr(), dc.len(), ac.as_ptr(), ac.len());
+    // SAFETY: as for a plane; the planes' rows overlap neither each other nor the streams.
+    verdict(unsafe {
+        call(
+            p0.0.as_mut_ptr(),
+            p0.0.len(),
+            p0.1,
+            p1.0.as_mut_ptr(),
+            p1.0.len(),
+            p1.1,
+            p2.0.as_mut_ptr(),
+            p2.0.len(),
+            p2.1,
+            p3.0.as_mut_ptr(),
+            p3.0.len(),
+            p3.1,
+            count,
+            preset,
+            shift,
+            d,
+            dn,
+            dc_at,
+            a,
+            an,
+            ac_at,
+        )
+    })
+}
+
+pub fn preview(
+    (upper, lower): (&mut [u8], &mut [u8]),
+    stride: usize,
+    place: usize,
+    shift: u32,
+    (dc, at): In,
+) -> Verdict {
+    // A place that does not fit is above 3 either way.
+    let place = u32::try_from(place).unwrap_or(u32::MAX);
+    let (u, un, l, ln) = (upper.as_mut_ptr(), upper.len(), lower.as_mut_ptr(), lower.len());
+    // SAFETY: two outputs and a stream, slices that do not overlap, and a position apart from them.
+    verdict(unsafe { vmx_preview(shift, place, stride, u, un, l, ln, dc.as_ptr(), dc.len(), at) })
+}
+
+pub fn block_report(report: &mut [u8], stride: usize, (ac, at): In) -> Verdict {
+    // SAFETY: output and stream are slices that do not overlap, the position is apart from them.
+    verdict(unsafe { vmx_block_report(stride, report.as_mut_ptr(), report.len(), ac.as_ptr(), ac.len(), at) })
+}
+
+pub fn plane_size(stride: usize) -> Result<(usize, usize), Refused> {
+    let (mut dc, mut ac) = (0, 0);
+    // SAFETY: two places of our own.
+    verdict(unsafe { vmx_plane_size(stride, &mut dc, &mut ac) })?;
+    Ok((dc, ac))
+}
+
+pub fn slice_size(count: usize, s: [usize; 4]) -> Result<(usize, usize), Refused> {
+    let (mut dc, mut ac) = (0, 0);
+    // SAFETY: two places of our own.
+    verdict(unsafe { vmx_slice_size(count, s[0], s[1], s[2], s[3], &mut dc, &mut ac) })?;
+    Ok((dc, ac))
+}

@@ -1,0 +1,263 @@
+//! A compressed frame: header, then all DC streams, then all AC streams.
+
+use crate::ffi;
+use crate::layout::{quality_preset, Layout};
+use crate::refused::{Refused, Verdict};
+
+/// What a frame's header says.
+#[derive(Clone, Copy, Debug, PartialEq, Eq)]
+pub struct FrameInfo {
+    /// The quality as stored; `preset` is what it stands for.
+    pub quality: u8,
+    /// The quantiser preset, 0 (finest) to 24.
+    pub preset: usize,
+    /// DC precision reduction, 0 to 15.
+    pub dc_shift: u32,
+    /// Coded in fields.
+    pub interlaced: bool,
+    /// `false` for a frame that holds DC streams only.
+    pub has_ac: bool,
+    /// Bytes in front of the first stream, 3 or 5.
+    pub header_len: usize,
+}
+
+/// A frame whose bytes were found whole: the streams of its slices are parts of them.
+#[derive(Clone, Copy, Debug)]
+pub struct Frame<'a> {
+    layout: Layout,
+    bytes: &'a [u8],
+    info: FrameInfo,
+}
+
+impl<'a> Frame<'a> {
+    /// Puts document 01's questions about a frame of this size. Bytes behind the last stream are ignored.
+    /// Refused: 2, 10 to 13.
+    ///
+    /// ```
+    /// use vmx::{Frame, Layout, Refused};
+    /// let layout = Layout::new(16, 16)?;
+    /// let bytes = [1, 90, 1, 2, 0, 0, 0, 0xAB, 0xCD, 1, 0, 0, 0, 0xEF];
+    /// let frame = Frame::parse(&layout, &bytes)?;
+    /// assert_eq!((frame.info().quality, frame.dc(0)?, frame.ac(0)?), (90, &bytes[7..9], &bytes[13..]));
+    /// assert_eq!(frame.ac(1), Err(Refused::Turn));
+    /// assert_eq!(Frame::parse(&layout, &bytes[..13]).unwrap_err(), Refused::Bytes);
+    /// # Ok::<(), Refused>(())
+    /// ```
+    pub fn parse(layout: &Layout, bytes: &'a [u8]) -> Result<Self, Refused> {
+        let h = ffi::parse(layout.width(), layout.height(), bytes)?;
+        let quality = h.quality as u8;
+        let info = FrameInfo {
+            quality,
+            preset: quality_preset(quality).1,
+            dc_shift: h.dc_shift,
+            interlaced: h.interlaced != 0,
+            has_ac: h.ac != 0,
+            header_len: h.header_len,
+        };
+        Ok(Frame { layout: *layout, bytes, info })
+    }
+
+    /// What the header says.
+    pub fn info(&self) -> FrameInfo {
+        self.info
+    }
+
+    /// The size it was read for.
+    pub fn layout(&self) -> &Layout {
+        &self.layout
+    }
+
+    /// The DC stream of a slice. Refused: 14.
+    pub fn dc(&self, slice: usize) -> Result<&'a [u8], Refused> {
+        self.stream(false, slice)
+    }
+
+    /// The AC stream of a slice. Refused: 14, also where the frame has no AC streams.
+    pub fn ac(&self, slice: usize) -> Result<&'a [u8], Refused> {
+        self.stream(true, slice)
+    }
+
+    /// Length of the frame's beginning that a preview needs: header and DC streams.
+    pub fn preview_len(&self) -> usize {
+        match self.place(false, self.layout.slices() - 1) {
+            Ok((offset, len)) => offset + len,
+            Err(_) => self.bytes.len(),
+        }
+    }
+
+    fn stream(&self, ac: bool, slice: usize) -> Result<&'a [u8], Refused> {
+        let (offset, len) = self.place(ac, slice)?;
+        Ok(&self.bytes[offset..offset + len])
+    }
+
+    fn place(&self, ac: bool, slice: usize) -> Result<(usize, usize), Refused> {
+        ffi::stream(self.layout.width(), self.layout.height(), self.bytes, ac, slice)
+    }
+}
+
+/// Builds a frame in a lent buffer: the header, then the DC streams of all slices in order, then the AC streams of all
+/// slices or of none.
+///
+/// ```
+/// use vmx::{FrameBuilder, Layout, Refused};
+/// let layout = Layout::new(16, 32)?;
+/// let mut out = [0; 64];
+/// let mut builder = FrameBuilder::new(&layout, false, 90, 0, &mut out)?;
+/// builder.put_dc(0, &[0xF0])?;
+/// assert_eq!(builder.put_ac(0, &[0x80]), Err(Refused::Turn)); // slice 1's DC stream has its turn
+/// builder.put_dc(1, &[0xF0])?;
+/// assert_eq!(builder.finish(), Some(&[1, 90, 2, 1, 0, 0, 0, 0xF0, 1, 0, 0, 0, 0xF0][..]));
+/// # Ok::<(), Refused>(())
+/// ```
+#[derive(Debug)]
+pub struct FrameBuilder<'a> {
+    out: &'a mut [u8],
+    state: ffi::Build,
+}
+
+impl<'a> FrameBuilder<'a> {
+    /// Writes the header. Refused: 2, 6.
+    pub fn new(
+        layout: &Layout,
+        interlaced: bool,
+        quality: u8,
+        dc_shift: u32,
+        out: &'a mut [u8],
+    ) -> Result<Self, Refused> {
+        let state = ffi::frame_start((layout.width(), layout.height()), interlaced, quality, dc_shift, out, 0)?;
+        Ok(FrameBuilder { out, state })
+    }
+
+    /// Puts the DC stream of a slice. Refused: 6, 13, 14.
+    pub fn put_dc(&mut self, slice: usize, stream: &[u8]) -> Verdict {
+        ffi::frame_put(&mut self.state, false, slice, stream, self.out)
+    }
+
+    /// Puts the AC stream of a slice. Refused: 6, 13, 14.
+    pub fn put_ac(&mut self, slice: usize, stream: &[u8]) -> Verdict {
+        ffi::frame_put(&mut self.state, true, slice, stream, self.out)
+    }
+
+    /// Whether all DC streams are there, and the AC streams of all slices or of none.
+    pub fn is_complete(&self) -> bool {
+        let b = &self.state;
+        b.ac_turn != 0 && (b.next == 0 || b.next == b.slices)
+    }
+
+    /// The frame, if it is complete.
+    pub fn finish(self) -> Option<&'a [u8]> {
+        let complete = self.is_complete();
+        let FrameBuilder { out, state } = self;
+        if complete {
+            out.get(..state.at)
+        } else {
+            None
+        }
+    }
+}
+
+/// Appends a whole frame to `out`: `dc` holds one stream a slice, `ac` as many or none. A refused call appends
+/// nothing. Refused: 2, 13, 14.
+///
+/// ```
+/// let layout = vmx::Layout::new(16, 32)?;
+/// let mut out = Vec::new();
+/// vmx::write(&mut out, &layout, false, 90, 0, &[vec![1], vec![2]], &[vec![3], vec![4]])?;
+/// assert_eq!(vmx::Frame::parse(&layout, &out)?.ac(1), Ok(&[4][..]));
+/// # Ok::<(), vmx::Refused>(())
+/// ```
+pub fn write<B: AsRef<[u8]>>(
+    out: &mut Vec<u8>,
+    layout: &Layout,
+    interlaced: bool,
+    quality: u8,
+    dc_shift: u32,
+    dc: &[B],
+    ac: &[B],
+) -> Verdict {
+    let start = out.len();
+    let total: usize = dc.iter().chain(ac).map(|s| s.as_ref().len() + 4).sum();
+    out.resize(start + 5 + total, 0);
+    let built = put_all(&mut out[start..], layout, interlaced, (quality, dc_shift), dc, ac);
+    out.truncate(start + built.unwrap_or(0));
+    built.map(|_| ())
+}
+
+/// The frame's length.
+fn put_all<B: AsRef<[u8]>>(
+    out: &mut [u8],
+    layout: &Layout,
+    interlaced: bool,
+    (quality, dc_shift): (u8, u32),
+    dc: &[B],
+    ac: &[B],
+) -> Result<usize, Refused> {
+    let mut builder = FrameBuilder::new(layout, interlaced, quality, dc_shift, out)?;
+    for (slice, stream) in dc.iter().enumerate() {
+        builder.put_dc(slice, stream.as_ref())?;
+    }
+    for (slice, stream) in ac.iter().enumerate() {
+        builder.put_ac(slice, stream.as_ref())?;
+    }
+    builder.finish().map(<[u8]>::len).ok_or(Refused::Turn)
+}
+
+#[cfg(test)]
+mod tests {
+    use super::*;
+
+    fn two_slices() -> Layout {
+        Layout::new(16, 32).unwrap()
+    }
+
+    #[test]
+    fn what_is_built_is_read() {
+        let layout = two_slices();
+        let (dc, ac) = ([vec![1, 2, 3], vec![]], [vec![4], vec![5, 6]]);
+        for shift in [0, 4] {
+            let mut out = vec![0xEE; 3];
+            write(&mut out, &layout, true, 36, shift, &dc, &ac).unwrap();
+            assert_eq!(out[..3], [0xEE; 3]);
+            let frame = Frame::parse(&layout, &out[3..]).unwrap();
+            let info = frame.info();
+            assert_eq!((info.quality, info.preset, info.dc_shift, info.has_ac), (36, 24, shift, true));
+            assert!(!info.interlaced, "32 rows are never interlaced");
+            assert_eq!(info.header_len, if shift == 0 { 3 } else { 5 });
+            for s in 0..2 {
+                assert_eq!((frame.dc(s), frame.ac(s)), (Ok(&dc[s][..]), Ok(&ac[s][..])));
+            }
+            let short = &out[3..3 + frame.preview_len()];
+            let preview = Frame::parse(&layout, short).unwrap();
+            assert!(!preview.info().has_ac);
+            assert_eq!((preview.dc(0), preview.ac(0)), (Ok(&dc[0][..]), Err(Refused::Turn)));
+        }
+    }
+
+    #[test]
+    fn a_refused_frame_is_not_appended() {
+        let layout = two_slices();
+        let mut out = vec![7];
+        let long = vec![0; layout.max_dc_len() + 1];
+        assert_eq!(write(&mut out, &layout, false, 90, 0, &[vec![], long], &[]), Err(Refused::Limit));
+        assert_eq!(write(&mut out, &layout, false, 90, 16, &[vec![], vec![]], &[]), Err(Refused::DcShift));
+        assert_eq!(write(&mut out, &layout, false, 90, 0, &[vec![]], &[]), Err(Refused::Turn), "a stream is missing");
+        let (two, three) = ([vec![], vec![]], [vec![], vec![], vec![]]);
+        assert_eq!(write(&mut out, &layout, false, 90, 0, &three, &[]), Err(Refused::Turn), "a stream too many");
+        assert_eq!(write(&mut out, &layout, false, 90, 0, &two, &[vec![]]), Err(Refused::Turn), "half of the AC");
+        assert_eq!(out, [7]);
+    }
+
+    #[test]
+    fn every_cut_of_a_frame_is_refused_or_has_no_ac() {
+        let layout = two_slices();
+        let mut out = Vec::new();
+        write(&mut out, &layout, false, 90, 3, &[vec![1], vec![2]], &[vec![3], vec![4]]).unwrap();
+        let whole = Frame::parse(&layout, &out).unwrap().preview_len();
+        for n in 0..out.len() {
+            match Frame::parse(&layout, &out[..n]) {
+                Ok(frame) => assert!(n == whole && !frame.info().has_ac),
+                Err(refused) => assert_eq!(refused, Refused::Bytes, "{n} bytes"),
+            }
+        }
+    }
+}
