@@ -58,3 +58,8 @@ pub use sample::{Depth, Sample};
 pub use shown::{show, shown_rows, shown_time};
 pub use streams::{StreamReader, StreamWriter};
 pub use threads::all_cores;
+
+/// The examples of SWITCHING.md are run as tests.
+#[cfg(doctest)]
+#[doc = include_str!("../SWITCHING.md")]
+pub struct Switching;

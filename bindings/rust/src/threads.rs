@@ -1,11 +1,13 @@
 //! Slices shared out among threads. A slice's result depends on the slice alone, so the number of threads shows only
 //! in the time.
 
+use std::sync::OnceLock;
 use std::thread;
 
-/// As many threads as the machine runs at once.
+/// As many threads as the machine runs at once. The system is asked once.
 pub fn all_cores() -> usize {
-    thread::available_parallelism().map_or(1, |n| n.get())
+    static CORES: OnceLock<usize> = OnceLock::new();
+    *CORES.get_or_init(|| thread::available_parallelism().map_or(1, |n| n.get()))
 }
 
 /// Applies `work` to each item and its number, on up to `threads` threads; the results in the items' order.
