@@ -1,0 +1,39 @@
+#!/usr/bin/env bash
+# Tests of what people use: the Rust crate (bindings/rust) and the program vmx (tool), over the proved static library.
+# FUZZ is the number of damaged files that are read.
+set -euo pipefail
+cd "$(dirname "$0")/.."
+export CARGO_TARGET_DIR="$PWD/target/users"
+rt staticlib vmx
+for crate in bindings/rust tool; do
+    cargo test --release --locked --offline --quiet --manifest-path "$crate/Cargo.toml"
+done
+cargo build --release --locked --offline --quiet --manifest-path tool/Cargo.toml
+vmx="$CARGO_TARGET_DIR/release/vmx"
+"$vmx" fuzz "${FUZZ:-5000}" 1
+
+# ffmpeg's test source there and back; the PSNR that each quality must reach.
+if ! command -v ffmpeg >/dev/null; then
+    echo "users: ffmpeg is not installed, its test source is left out"
+    exit 0
+fi
+work="$PWD/target/users/ffmpeg"
+mkdir -p "$work"
+for pixels in yuv422p yuv422p10le; do
+    ffmpeg -v error -y -f lavfi -i testsrc2=size=1280x720:rate=25:duration=1 -pix_fmt "$pixels" -strict -1 "$work/in.y4m"
+    while read -r quality least; do
+        "$vmx" encode "$work/in.y4m" "$work/a.vmx" --quality "$quality"
+        "$vmx" decode "$work/a.vmx" "$work/out.y4m"
+        ffmpeg -v error -y -i "$work/out.y4m" -f null - # it reads what we write
+        said=$("$vmx" compare "$work/in.y4m" "$work/out.y4m")
+        echo "users: $pixels, quality $quality: $said"
+        awk -v said="$said" -v least="$least" 'BEGIN { split(said, w, "PSNR "); exit !(w[2] ~ /^equal/ || w[2] + 0 >= least) }' ||
+            { echo "users: below $least dB"; exit 1; }
+    done <<'TABLE'
+36 26
+60 30
+80 34
+90 38
+99 46
+TABLE
+done
