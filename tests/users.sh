@@ -20,11 +20,11 @@ fi
 work="$PWD/target/users/ffmpeg"
 mkdir -p "$work"
 for pixels in yuv422p yuv422p10le; do
-    ffmpeg -v error -y -f lavfi -i testsrc2=size=1280x720:rate=25:duration=1 -pix_fmt "$pixels" -strict -1 "$work/in.y4m"
+    ffmpeg -nostdin -v error -y -f lavfi -i testsrc2=size=1280x720:rate=25:duration=1 -pix_fmt "$pixels" -strict -1 "$work/in.y4m"
     while read -r quality least; do
         "$vmx" encode "$work/in.y4m" "$work/a.vmx" --quality "$quality"
         "$vmx" decode "$work/a.vmx" "$work/out.y4m"
-        ffmpeg -v error -y -i "$work/out.y4m" -f null - # it reads what we write
+        ffmpeg -nostdin -v error -y -i "$work/out.y4m" -f null - # it reads what we write
         said=$("$vmx" compare "$work/in.y4m" "$work/out.y4m")
         echo "users: $pixels, quality $quality: $said"
         awk -v said="$said" -v least="$least" 'BEGIN { split(said, w, "PSNR "); exit !(w[2] ~ /^equal/ || w[2] + 0 >= least) }' ||

@@ -87,3 +87,26 @@ fn encode_below<S: Sample>(
         }
     }
 }
+
+#[cfg(test)]
+mod tests {
+    use super::*;
+    use crate::random::Random;
+
+    #[test]
+    fn a_frame_too_long_is_coded_at_a_lower_quality() {
+        let mut encoder = Encoder::new(64, 32).unwrap();
+        // with alpha, since three planes of noise fit
+        let mut picture = Picture::<u8>::new(encoder.layout(), true);
+        let mut random = Random::new(1);
+        for p in 0..4 {
+            picture.plane_mut(p).fill_with(|| 255 * random.below(2) as u8);
+        }
+        encoder.set_quality(99);
+        let alone = encoder.encode(&picture, false);
+        assert_eq!(alone, Err(Refused::Limit), "noise of 0 and 255 is too long at quality 99");
+        let (frame, quality) = encode_below(&mut encoder, 99, &picture, false).unwrap();
+        assert!(quality < 99);
+        assert_eq!(vmx::Frame::parse(encoder.layout(), &frame).unwrap().info().quality, quality);
+    }
+}

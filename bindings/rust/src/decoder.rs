@@ -73,7 +73,8 @@ impl<S: Sample> Decoder<S> {
     pub fn decode(&mut self, frame: &[u8], time: u64) -> Result<Vec<Verdict>, Refused> {
         let frame = Frame::parse(&self.layout, frame)?;
         frame.ac(0)?;
-        let verdicts = for_each(self.new.slices_mut(), self.threads, |s, planes| decode_one_slice(&frame, s, planes));
+        let verdicts =
+            for_each(self.new.slices_mut(), self.threads, || (), |_, s, planes| decode_one_slice(&frame, s, planes));
         for (s, &verdict) in verdicts.iter().enumerate() {
             for p in 0..self.new.plane_count() {
                 show(self.new.plane_mut(p), self.shown.plane(p), self.layout.strides()[p], s, verdict)

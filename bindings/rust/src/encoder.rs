@@ -74,21 +74,25 @@ impl Encoder {
         if *picture.layout() != self.layout {
             return Err(Refused::Size);
         }
+        let size = slice_size(&self.layout.strides()[..picture.plane_count()])?;
+        let room = || (vec![0; size.dc], vec![0; size.ac]);
         let slices: Vec<_> = (0..self.layout.slices()).map(|s| picture.slice(s)).collect();
-        let coded = for_each(slices, self.threads, |_, planes| self.encode_one_slice(&planes));
+        let coded = for_each(slices, self.threads, room, |(dc, ac), _, planes| self.encode_one_slice(&planes, dc, ac));
         let (dc, ac): (Vec<_>, Vec<_>) = coded.into_iter().collect::<Result<Vec<_>, _>>()?.into_iter().unzip();
         let mut out = Vec::new();
         frame::write(&mut out, &self.layout, interlaced, self.quality, self.dc_shift, &dc, &ac)?;
         Ok(out)
     }
 
-    /// The DC and the AC stream of a slice.
-    fn encode_one_slice<S: Sample>(&self, planes: &[Plane<S>]) -> Result<(Vec<u8>, Vec<u8>), Refused> {
-        let strides: Vec<usize> = planes.iter().map(|p| p.stride).collect();
-        let size = slice_size(&strides)?;
-        let (mut dc, mut ac) = (vec![0; size.dc], vec![0; size.ac]);
-        let (mut d, mut a) = (StreamWriter::new(&mut dc), StreamWriter::new(&mut ac));
-        encode_slice(planes, self.preset, self.dc_shift, &mut d, &mut a)?;
-        Ok((d.written().to_vec(), a.written().to_vec()))
+    /// The DC and the AC stream of a slice, coded in the two lent buffers.
+    fn encode_one_slice<S: Sample>(
+        &self,
+        planes: &[Plane<S>],
+        dc: &mut [u8],
+        ac: &mut [u8],
+    ) -> Result<(Vec<u8>, Vec<u8>), Refused> {
+        let (mut dc, mut ac) = (StreamWriter::new(dc), StreamWriter::new(ac));
+        encode_slice(planes, self.preset, self.dc_shift, &mut dc, &mut ac)?;
+        Ok((dc.written().to_vec(), ac.written().to_vec()))
     }
 }

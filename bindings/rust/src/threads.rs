@@ -10,11 +10,21 @@ pub fn all_cores() -> usize {
     *CORES.get_or_init(|| thread::available_parallelism().map_or(1, |n| n.get()))
 }
 
-/// Applies `work` to each item and its number, on up to `threads` threads; the results in the items' order.
-pub(crate) fn for_each<T: Send, R: Send>(items: Vec<T>, threads: usize, work: impl Fn(usize, T) -> R + Sync) -> Vec<R> {
+/// Applies `work` to each item and its number, on up to `threads` threads; the results in the items' order. Each thread
+/// makes what it needs for itself once.
+pub(crate) fn for_each<T: Send, C, R: Send>(
+    items: Vec<T>,
+    threads: usize,
+    own: impl Fn() -> C + Sync,
+    work: impl Fn(&mut C, usize, T) -> R + Sync,
+) -> Vec<R> {
+    let one = |first: usize, part: Vec<T>| -> Vec<R> {
+        let mut own = own();
+        part.into_iter().enumerate().map(|(i, item)| work(&mut own, first + i, item)).collect()
+    };
     let n = items.len();
     if threads <= 1 || n < 2 {
-        return items.into_iter().enumerate().map(|(i, item)| work(i, item)).collect();
+        return one(0, items);
     }
     let per = n.div_ceil(threads.min(n));
     let mut rest = items;
@@ -24,12 +34,9 @@ pub(crate) fn for_each<T: Send, R: Send>(items: Vec<T>, threads: usize, work: im
         parts.push((parts.len() * per, rest));
         rest = behind;
     }
-    let work = &work;
+    let one = &one;
     thread::scope(|scope| {
-        let run = |(first, part): (usize, Vec<T>)| {
-            scope.spawn(move || part.into_iter().enumerate().map(|(i, item)| work(first + i, item)).collect::<Vec<R>>())
-        };
-        let running: Vec<_> = parts.into_iter().map(run).collect();
+        let running: Vec<_> = parts.into_iter().map(|(first, part)| scope.spawn(move || one(first, part))).collect();
         // A thread that panicked makes this one panic with the same message.
         running.into_iter().flat_map(|t| t.join().unwrap_or_else(|e| std::panic::resume_unwind(e))).collect()
     })
@@ -45,7 +52,7 @@ mod tests {
             let want: Vec<usize> = (0..n).map(|i| i * 100 + i).collect();
             for threads in [0, 1, 2, 3, 16, 1000] {
                 let items: Vec<usize> = (0..n).collect();
-                assert_eq!(for_each(items, threads, |i, item| i * 100 + item), want);
+                assert_eq!(for_each(items, threads, || (), |_, i, item| i * 100 + item), want);
             }
         }
     }
