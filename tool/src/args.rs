@@ -56,8 +56,15 @@ impl Args {
             if !known.contains(&name) {
                 return Err(Fail::Usage(format!("this command has no option '{name}'")));
             }
-            let value = if SWITCHES.contains(&name) { Some(String::new()) } else { joined.or(rest.next().cloned()) };
-            let value = value.ok_or_else(|| Fail::Usage(format!("{name} needs a value")))?;
+            let value = match (SWITCHES.contains(&name), joined) {
+                (true, None) => String::new(),
+                (true, Some(_)) => return Err(Fail::Usage(format!("{name} has no value"))),
+                (false, Some(value)) => value,
+                (false, None) => match rest.next() {
+                    Some(value) => value.clone(),
+                    None => return Err(Fail::Usage(format!("{name} needs a value"))),
+                },
+            };
             if args.options.insert(name.to_string(), value).is_some() {
                 return Err(Fail::Usage(format!("{name} is given twice")));
             }
@@ -131,7 +138,7 @@ mod tests {
 
     #[test]
     fn mistakes() {
-        for words in [&["--what"][..], &["--quality"], &["--quality", "1", "--quality", "2"]] {
+        for words in [&["--what"][..], &["--quality"], &["--quality", "1", "--quality", "2"], &["--brief=x"]] {
             assert!(matches!(parse(words), Err(Fail::Usage(_))), "{words:?}");
         }
         assert!(parse(&["--quality", "many"]).unwrap().number("--quality", 36, 99).is_err());

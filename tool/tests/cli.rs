@@ -261,7 +261,7 @@ fn wrong_command_lines() {
         "encode a b --depth 9",
         "encode a b --threads 0",
         "decode a b --quality 90",
-        "info a --brief=x --brief",
+        "info a --brief=x",
         "fuzz many 1",
     ] {
         let (status, out, err) = vmx(&f, line);
