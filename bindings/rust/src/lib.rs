@@ -5,7 +5,7 @@
 //!
 //! - planes and slices: [`encode_plane`], [`decode_plane`], [`encode_slice`], [`decode_slice`],
 //!   [`decode_plane_preview`], [`block_report`], [`plane_size`], [`slice_size`], on lent buffers;
-//! - frames: [`Layout`], [`Frame`], [`FrameBuilder`], [`write`], [`quality_preset`], [`shown_rows`], [`shown_time`];
+//! - frames: [`Layout`], [`Frame`], [`FrameBuilder`], [`write()`], [`quality_preset`], [`shown_rows`], [`shown_time`];
 //! - whole pictures on several threads: [`Picture`], [`Encoder`], [`Decoder`], [`Preview`].
 //!
 //! The first two are the library's own calls. The third is ordinary Rust over them, and is not proved.

@@ -94,7 +94,20 @@ pub struct Plane<'a, S> {
     pub stride: usize,
 }
 
-/// A plane of a slice that is read.
+/// A plane of a slice that is read. Two planes cannot share samples, nor a plane with the streams it is read from:
+///
+/// ```compile_fail,E0499
+/// use vmx::PlaneMut;
+/// let mut rows = [0u8; 128];
+/// let twice = [PlaneMut { rows: &mut rows, stride: 8 }, PlaneMut { rows: &mut rows, stride: 8 }];
+/// ```
+///
+/// ```compile_fail,E0502
+/// use vmx::{decode_slice, PlaneMut, StreamReader};
+/// let mut rows = [0u8; 128];
+/// let (mut dc, mut ac) = (StreamReader::new(&rows), StreamReader::new(&[]));
+/// decode_slice(&mut [PlaneMut { rows: &mut rows, stride: 8 }], 0, 0, &mut dc, &mut ac);
+/// ```
 #[derive(Debug)]
 pub struct PlaneMut<'a, S> {
     /// Sixteen rows or more.

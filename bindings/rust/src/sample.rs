@@ -33,7 +33,11 @@ pub(crate) mod sealed {
     }
 }
 
-/// A sample type the planes can hold: `u8` (8 bit) or `u16` (10 bit, in the upper bits). No other type can be one.
+/// A sample type the planes can hold: `u8` (8 bit) or `u16` (10 bit, in the upper bits). No other type can be one:
+///
+/// ```compile_fail,E0277
+/// vmx::encode_plane(&[0u32; 128], 8, 0, 0, 0, todo!(), todo!());
+/// ```
 pub trait Sample: sealed::Calls + Copy + Default + Eq + std::fmt::Debug + Send + Sync + 'static {
     /// The depth that this type stands for.
     const DEPTH: Depth;
