@@ -26,6 +26,40 @@ pub fn run() -> ExitCode {
     ExitCode::SUCCESS
 }
 
+/// A fixed piece of work, so often: for a tool that counts instructions (tests/instructions.sh).
+pub fn work(who: &str, what: &str, times: usize) -> ExitCode {
+    let (act, depth) = what.split_at(what.find(|c: char| c.is_ascii_digit()).unwrap_or(what.len()));
+    match depth {
+        "8" => work_on::<u8>(who, act, times),
+        "10" => work_on::<u16>(who, act, times),
+        _ => ExitCode::FAILURE,
+    }
+}
+
+fn work_on<T: Made>(who: &str, act: &str, times: usize) -> ExitCode {
+    let settings = Settings { preset: 8, dc_shift: 0 };
+    let mut plane = content::<T>(1920);
+    let path = match who {
+        "ours" => None,
+        "sse2" => Some(PATHS[0]),
+        "portable" => Some(PATHS[1]),
+        _ => return ExitCode::FAILURE,
+    };
+    let rust = path.map(Rust::new);
+    let mut b = if act == "read" { coded(settings, std::slice::from_ref(&plane)) } else { room(1920) };
+    for _ in 0..times {
+        (b.dc_at, b.ac_at) = (0, 0);
+        match (act, &rust) {
+            ("code", None) => assert_eq!(OURS.code_plane(settings, &plane, black_box(&mut b)), 0),
+            ("code", Some(r)) => drop(black_box(r.streams(settings, &plane))),
+            ("read", None) => assert_eq!(OURS.read_plane(settings, black_box(&mut plane), &mut b), 0),
+            ("read", Some(r)) => assert!(r.rows(settings, black_box(&mut plane), &b, (0, 0)).is_some()),
+            _ => return ExitCode::FAILURE,
+        }
+    }
+    ExitCode::SUCCESS
+}
+
 /// The least time of one of `items` over all rounds.
 fn best(items: usize, mut f: impl FnMut()) -> f64 {
     let mut least = f64::MAX;

@@ -17,7 +17,7 @@ mod questions;
 #[cfg(published)]
 mod report;
 
-const USAGE: &str = "usage: oracle differential SECONDS SEED [LAYER..] | answers | bench";
+const USAGE: &str = "usage: oracle differential SECONDS SEED [LAYER..] | answers | bench | work WHO WHAT TIMES";
 
 #[cfg(published)]
 fn main() -> std::process::ExitCode {
@@ -30,6 +30,10 @@ fn main() -> std::process::ExitCode {
         },
         ["answers"] => answers::run(),
         ["bench"] => bench::run(),
+        ["work", who, what, times] => match times.parse() {
+            Ok(times) => bench::work(who, what, times),
+            _ => usage(),
+        },
         _ => usage(),
     }
 }

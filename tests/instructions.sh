@@ -1,0 +1,32 @@
+#!/usr/bin/env bash
+# Instructions a plane takes (stride 1,920, preset 8), ours against the Rust's SSE2 path, counted by callgrind: repeatable
+# whatever the machine is doing, so that a change that loses vector code is seen. MARGINS are in hundredths of the Rust's.
+set -euo pipefail
+cd "$(dirname "$0")/.."
+oracle=oracle/target/release/oracle
+if ! command -v valgrind >/dev/null; then
+    echo "instructions: valgrind is not installed, nothing is counted"
+    exit 0
+fi
+# The cost of one more plane: eleven less one, over ten.
+count() {
+    local n all=()
+    for n in 1 11; do
+        valgrind --tool=callgrind --callgrind-out-file=/dev/null "$oracle" work "$1" "$2" "$n" 2>target/instructions.log
+        all+=("$(awk '/Collected/ { print $NF }' target/instructions.log)")
+    done
+    echo $(((all[1] - all[0]) / 10))
+}
+mkdir -p target
+while read -r what margin; do
+    ours=$(count ours "$what")
+    rust=$(count sse2 "$what")
+    hundredths=$((100 * ours / rust))
+    echo "instructions: $what: ours $ours, the Rust $rust, $hundredths of 100 (at most $margin)"
+    [ "$hundredths" -le "$margin" ] || { echo "instructions: $what takes too many"; exit 1; }
+done <<'TABLE'
+code8 80
+code10 80
+read8 135
+read10 120
+TABLE
