@@ -1,26 +1,27 @@
--- `decplane::plane8`: an invariant for each of the two loops, over the blocks so far.
+-- `decplane::ten::plane10`: an invariant for each of the two loops, over the blocks so far.
 use mathlib.Core.Path.{_≡_, _∙_}
+use mathlib.Core.Bool.{not}
 use mathlib.Core.List.{List}
 use Prim.Native.Nat.{ℕ, _+_, _-_, _*_, _/_, _≤_, _<_}
 use native.Mathlib.Omega.{arith}
 use lib.ListN.{length}
 use borrow.Author.Needs.{needs, sfits-of}
 use mir.Facts.{toZ-ofZ}
-use Rattle.slice.specs.Arguments.{eight}
+use Rattle.slice.specs.Arguments.{ten}
 use Rattle.encplane.specs.Coding.{plane}
-use Rattle.encplane.proofs.Laws.{part-is, part-long}
+use Rattle.encplane.proofs.Laws.{corner-fits, part-is, part-long}
 use Rattle.decplane.proofs.Loops.{Behind, Row, begun, as-long, asks, inside, next, next-row, ended, done}
-use Rattle.decplane.proofs.plane8.Statement.{statement}
-use Rattle.decplane.proofs.plane8.Tie as tie
+use Rattle.decplane.proofs.ten.plane10.Statement.{statement}
+use Rattle.decplane.proofs.ten.plane10.Tie as tie
 
 abbrev Inv-loop2 : tie.InvT-loop2
-Inv-loop2 rows₀ stride place preset shift dc d ac a v q t z cols s₀ j k₀ rows s k = (k ≤ cols) × Row eight preset shift place stride dc ac d a j s₀ rows₀ k s rows
+Inv-loop2 rows₀ stride place preset shift dc d ac a v q t z cols s₀ j k₀ rows s k = (k ≤ cols) × Row ten preset shift place stride dc ac d a j s₀ rows₀ k s rows
 
 abbrev μ-loop2 : tie.MeasureT-loop2
 μ-loop2 rows₀ stride place preset shift dc d ac a v q t z cols s₀ j k₀ rows s k = cols - k
 
 abbrev Inv-loop : tie.InvT-loop
-Inv-loop rows₀ stride place preset shift dc d ac a v q t z cols s₀ j₀ rows s j = (j ≤ 2) × Behind eight preset shift (plane place stride rows₀) dc ac d a j 0 s rows
+Inv-loop rows₀ stride place preset shift dc d ac a v q t z cols s₀ j₀ rows s j = (j ≤ 2) × Behind ten preset shift (plane place stride rows₀) dc ac d a j 0 s rows
 
 abbrev μ-loop : tie.MeasureT-loop
 μ-loop rows₀ stride place preset shift dc d ac a v q t z cols s₀ j₀ rows s j = 2 - j
@@ -28,11 +29,18 @@ abbrev μ-loop : tie.MeasureT-loop
 abbrev start : tie.After-begin Inv-loop2 μ-loop2 Inv-loop μ-loop → tie.Start Inv-loop2 μ-loop2 Inv-loop μ-loop
 start c = c .before .before .before .before .before .before .before .before
 
+-- from a turn's end to its painting, and to its start
+abbrev painting : tie.After-next Inv-loop2 μ-loop2 Inv-loop μ-loop → tie.After-paint16 Inv-loop2 μ-loop2 Inv-loop μ-loop
+painting c = c .before .before .before
+
+abbrev turn : tie.After-paint16 Inv-loop2 μ-loop2 Inv-loop μ-loop → tie.In-loop2 Inv-loop2 μ-loop2 Inv-loop μ-loop
+turn w = w .before .before .before .before .before .before .before .before
+
 decode-numbers-requires : tie.Need-decode-numbers-requires Inv-loop2 μ-loop2 Inv-loop μ-loop
 decode-numbers-requires c κs = let s = c .before .before .before .before in omega (arith, s .pre .preset-le)
 
 begin-requires : tie.Need-begin-requires Inv-loop2 μ-loop2 Inv-loop μ-loop
-begin-requires c κs = let s = c .before .before .before .before .before .before .before in (s .pre .dc-start, s .pre .ac-start)
+begin-requires c κs = let s = c .before .before .before .before .before .before .before in (omega (arith, s .pre .dc-start, s .pre .ac-start), omega (arith, s .pre .dc-start, s .pre .ac-start))
 
 loop-holds : tie.Need-loop-holds Inv-loop2 μ-loop2 Inv-loop μ-loop
 loop-holds c = (omega arith, begun (c .begin .result) (c .begin .ensures))
@@ -42,7 +50,7 @@ loop2-holds c = (omega arith, λ l o b. b)
 
 -- the blocks so far in a turn of the inner loop
 sofar : (c : tie.In-loop2 Inv-loop2 μ-loop2 Inv-loop μ-loop) → let l2 = c .before in let l = l2 .before .before in let a = start (l .before) .args in
-    Behind eight (a .preset) (a .shift) (plane (a .place) (a .stride) (a .rows .now)) (a .dc .now) (a .ac .now) (a .d) (a .a) (l .loop .j) (l2 .loop2 .k) (l2 .loop2 .s) (l2 .loop2 .rows)
+    Behind ten (a .preset) (a .shift) (plane (a .place) (a .stride) (a .rows .now)) (a .dc .now) (a .ac .now) (a .d) (a .a) (l .loop .j) (l2 .loop2 .k) (l2 .loop2 .s) (l2 .loop2 .rows)
 sofar c = let l2 = c .before in let l = l2 .before .before in let s = start (l .before) in l2 .loop2 .inv .1 (s .args .rows .now) (s .pre) (l .loop .inv .1)
 
 next-block-requires : tie.Need-next-block-requires Inv-loop2 μ-loop2 Inv-loop μ-loop
@@ -58,7 +66,7 @@ corner-requires c κs =
     let i2 = c .before .before in
     let l2 = i2 .before in
     let s = start (l2 .before .before .before) in
-    (l2 .before .loop-test .taken, s .pre .stride-le, omega (arith, i2 .loop2-test .taken, s .pre .stride-le))
+    (omega (arith, l2 .before .loop-test .taken), s .pre .stride-le, omega (arith, i2 .loop2-test .taken, s .pre .stride-le))
 
 -- the block lies in the rows
 there : (c : tie.After-corner Inv-loop2 μ-loop2 Inv-loop μ-loop) → let l2 = c .before .before .before .before in let s = start (l2 .before .before .before) in
@@ -70,17 +78,26 @@ there c =
     let s = start (l .before) in
     inside (l .loop .j) (l2 .loop2 .k) (s .pre) (l2 .before .loop-test .taken) (i2 .loop2-test .taken) (c .corner .ensures) (sofar i2)
 
-sub-paint8 : tie.Need-sub-paint8 Inv-loop2 μ-loop2 Inv-loop μ-loop
-sub-paint8 c = omega (arith, there (c .before))
+mul-paint16 : tie.Need-mul-paint16 Inv-loop2 μ-loop2 Inv-loop μ-loop
+mul-paint16 c =
+    let k = c .before in
+    let i2 = k .before .before .before in
+    let l2 = i2 .before in
+    let l = l2 .before .before in
+    let s = start (l .before) in
+    omega (arith, k .corner .ensures, corner-fits (l .loop .j) (l2 .loop2 .k) (s .args .stride) (l2 .before .loop-test .taken) (i2 .loop2-test .taken), s .pre .stride-le)
 
-part-paint8-start : tie.Need-part-paint8-start Inv-loop2 μ-loop2 Inv-loop μ-loop
-part-paint8-start c = omega (arith, there (c .before))
+sub-paint16 : tie.Need-sub-paint16 Inv-loop2 μ-loop2 Inv-loop μ-loop
+sub-paint16 c = omega (arith, there (c .before))
 
-part-paint8-end : tie.Need-part-paint8-end Inv-loop2 μ-loop2 Inv-loop μ-loop
-part-paint8-end c = search needs
+part-paint16-start : tie.Need-part-paint16-start Inv-loop2 μ-loop2 Inv-loop μ-loop
+part-paint16-start c = omega (arith, there (c .before))
 
-paint8-requires : tie.Need-paint8-requires Inv-loop2 μ-loop2 Inv-loop μ-loop
-paint8-requires c κs =
+part-paint16-end : tie.Need-part-paint16-end Inv-loop2 μ-loop2 Inv-loop μ-loop
+part-paint16-end c = search needs
+
+paint16-requires : tie.Need-paint16-requires Inv-loop2 μ-loop2 Inv-loop μ-loop
+paint16-requires c κs =
     let k = c .before .before .before .before in
     let l2 = k .before .before .before .before in
     let b = l2 .before .before .before in
@@ -95,29 +112,29 @@ paint8-requires c κs =
 
 add-k : tie.Need-add-k Inv-loop2 μ-loop2 Inv-loop μ-loop
 add-k c =
-    let i2 = c .before .before .before .before .before .before .before .before .before .before .before in
+    let i2 = turn (painting c) in
     let s = start (i2 .before .before .before .before) in
     record { fits = omega (arith, i2 .loop2-test .taken, s .pre .stride-le) }
 
 loop2-less : tie.Need-loop2-less Inv-loop2 μ-loop2 Inv-loop μ-loop
 loop2-less c =
-    let i2 = c .before .before .before .before .before .before .before .before .before .before .before in
+    let i2 = turn (painting c) in
     omega (arith, i2 .loop2-test .taken)
 
 loop2-again : tie.Need-loop2-again Inv-loop2 μ-loop2 Inv-loop μ-loop
 loop2-again c =
-    let w = c .before .before .before in
+    let w = painting c in
     let k = w .before .before .before .before .before in
     let g = k .before in
     let i2 = g .before .before in
     let l2 = i2 .before in
     let l = l2 .before .before in
     let s = start (l .before) in
-    let v = l .before .before .before .before .before .level8 in (
+    let v = l .before .before .before .before .before .level10 in (
       omega (arith, i2 .loop2-test .taken),
       λ r o x.
-          next (l .loop .j) (l2 .loop2 .k) (g .next-block .result) (l2 .loop2 .rows) (w .paint8 .last .0) o (l2 .before .loop-test .taken) (i2 .loop2-test .taken) (g .next-block .ensures) (k .corner .ensures)
-          (w .paint8 .ensures (s .args .place) (toZ-ofZ (sfits-of (v .ok)) ∙ v .ensures)) (l2 .loop2 .inv .1 r o x),
+          next (l .loop .j) (l2 .loop2 .k) (g .next-block .result) (l2 .loop2 .rows) (w .paint16 .last .0) o (l2 .before .loop-test .taken) (i2 .loop2-test .taken) (g .next-block .ensures) (k .corner .ensures)
+          (w .paint16 .ensures (not (g .next-block .result .flat)) (s .args .place) (toZ-ofZ (sfits-of (v .ok)) ∙ v .ensures)) (l2 .loop2 .inv .1 r o x),
     )
 
 add-j : tie.Need-add-j Inv-loop2 μ-loop2 Inv-loop μ-loop
@@ -148,8 +165,8 @@ returns c =
     let l = e .before in
     done (l .loop .j) (start (l .before) .pre) (omega (arith, e .loop-test .left, l .loop .inv .0)) (l .loop .inv .1) (c .before .dc-end .ensures) (c .ac-end .ensures)
 
-pub plane8-spec : {M : Type 1} → statement M
-plane8-spec =
+pub plane10-spec : {M : Type 1} → statement M
+plane10-spec =
     tie.close
     (tie.spec
     Inv-loop2
@@ -165,10 +182,11 @@ plane8-spec =
     loop2-holds
     next-block-requires
     corner-requires
-    sub-paint8
-    part-paint8-start
-    part-paint8-end
-    paint8-requires
+    mul-paint16
+    sub-paint16
+    part-paint16-start
+    part-paint16-end
+    paint16-requires
     add-k
     loop2-less
     loop2-again
