@@ -1,13 +1,8 @@
 -- Demand 3, whole: of the exported coding and reading functions, by their own contracts. The claim is crates/slice/specs/Demand3.antt.
-use mathlib.Core.Path.{_≡_, refl}
-use mathlib.Core.List.{List, [], _∷_}
-use Prim.Native.Nat.{ℕ}
-use Rattle.slice.specs.Arguments.{Depth, eight, ten, Rows, Plane, Call, onePlane, oneSlice, PerStream, Buffers}
+use mathlib.Core.Path.{_≡_}
+use Rattle.slice.specs.Arguments.{Call, PerStream, Buffers}
 use Rattle.slice.specs.Calls.{Decoded, decode}
-use Rattle.slice.specs.CallLists.{Reading, readNone, readThen}
 use Rattle.slice.specs.Demand3.{Demand3}
-use Rattle.slice.proofs.Runs.{decodeAll}
-use Rattle.encplane.specs.Coding.{settings}
 use Rattle.vmx.proofs.Steps.{Codes}
 use Rattle.vmx.proofs.ReadSteps.{Reads, reads-plane8, reads-plane10, reads-slice8, reads-slice10}
 use Rattle.vmx.proofs.CodingLists.{with-reading}

@@ -140,7 +140,7 @@ pub extern "C" fn vmx_decode_slice10(
 {
     let d = *dc_at;
     let a = *ac_at;
-    let read = decoder::decode_slice10(
+    let answer = decoder::decode_slice10(
         p0,
         stride0,
         p1,
@@ -157,5 +157,5 @@ pub extern "C" fn vmx_decode_slice10(
         ac,
         a,
     );
-    hand_back(read, dc_at, ac_at)
+    hand_back(answer, dc_at, ac_at)
 }
