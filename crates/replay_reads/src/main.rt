@@ -35,7 +35,7 @@ fn same_answer(b: &[u8], r: ReadAnswer) -> bool {
 }
 
 // The call on an 8-bit plane.
-fn plane8(b: &[u8], rows: &mut [u8]) -> bool {
+fn plane8(b: &[u8], dc: &[u8], ac: &[u8], rows: &mut [u8]) -> bool {
     let n = size(b, 32);
     if rows.len() < n {
         return false;
@@ -46,16 +46,16 @@ fn plane8(b: &[u8], rows: &mut [u8]) -> bool {
         size(b, 8),
         size(b, 4),
         shift_of(b),
-        dc_of(b),
+        dc,
         position(b, 40),
-        ac_of(b),
+        ac,
         position(b, 48),
     );
     same_answer(b, r)
 }
 
 // The call on a 10-bit plane.
-fn plane10(b: &[u8], rows: &mut [u16]) -> bool {
+fn plane10(b: &[u8], dc: &[u8], ac: &[u8], rows: &mut [u16]) -> bool {
     let n = size(b, 32);
     if rows.len() < n {
         return false;
@@ -66,16 +66,24 @@ fn plane10(b: &[u8], rows: &mut [u16]) -> bool {
         size(b, 8),
         size(b, 4),
         shift_of(b),
-        dc_of(b),
+        dc,
         position(b, 40),
-        ac_of(b),
+        ac,
         position(b, 48),
     );
     same_answer(b, r)
 }
 
 // The call on an 8-bit slice.
-fn slice8(b: &[u8], p0: &mut [u8], p1: &mut [u8], p2: &mut [u8], p3: &mut [u8]) -> bool {
+fn slice8(
+    b: &[u8],
+    dc: &[u8],
+    ac: &[u8],
+    p0: &mut [u8],
+    p1: &mut [u8],
+    p2: &mut [u8],
+    p3: &mut [u8],
+) -> bool {
     let n0 = size(b, 32);
     if p0.len() < n0 {
         return false;
@@ -104,16 +112,24 @@ fn slice8(b: &[u8], p0: &mut [u8], p1: &mut [u8], p2: &mut [u8], p3: &mut [u8]) 
         size(b, 8),
         size(b, 4),
         shift_of(b),
-        dc_of(b),
+        dc,
         position(b, 40),
-        ac_of(b),
+        ac,
         position(b, 48),
     );
     same_answer(b, r)
 }
 
 // The call on a 10-bit slice.
-fn slice10(b: &[u8], p0: &mut [u16], p1: &mut [u16], p2: &mut [u16], p3: &mut [u16]) -> bool {
+fn slice10(
+    b: &[u8],
+    dc: &[u8],
+    ac: &[u8],
+    p0: &mut [u16],
+    p1: &mut [u16],
+    p2: &mut [u16],
+    p3: &mut [u16],
+) -> bool {
     let n0 = size(b, 32);
     if p0.len() < n0 {
         return false;
@@ -142,16 +158,16 @@ fn slice10(b: &[u8], p0: &mut [u16], p1: &mut [u16], p2: &mut [u16], p3: &mut [u
         size(b, 8),
         size(b, 4),
         shift_of(b),
-        dc_of(b),
+        dc,
         position(b, 40),
-        ac_of(b),
+        ac,
         position(b, 48),
     );
     same_answer(b, r)
 }
 
 // The preview, into the first two planes' rows.
-fn previewed(b: &[u8], upper: &mut [u8], lower: &mut [u8]) -> bool {
+fn previewed(b: &[u8], dc: &[u8], upper: &mut [u8], lower: &mut [u8]) -> bool {
     let m = size(b, 32);
     let n = size(b, 34);
     if upper.len() < m {
@@ -168,7 +184,7 @@ fn previewed(b: &[u8], upper: &mut [u8], lower: &mut [u8]) -> bool {
         size(b, 16),
         &mut upper[0..m],
         &mut lower[0..n],
-        dc_of(b),
+        dc,
         d,
     );
     match r {
@@ -178,14 +194,14 @@ fn previewed(b: &[u8], upper: &mut [u8], lower: &mut [u8]) -> bool {
 }
 
 // The block report, into the first plane's rows.
-fn reported(b: &[u8], rows: &mut [u8]) -> bool {
+fn reported(b: &[u8], ac: &[u8], rows: &mut [u8]) -> bool {
     let n = size(b, 32);
     if rows.len() < n {
         return false;
     }
     let d = position(b, 40);
     let a = position(b, 48);
-    match report::block_report(size(b, 16), &mut rows[0..n], ac_of(b), a) {
+    match report::block_report(size(b, 16), &mut rows[0..n], ac, a) {
         report::PlaneEnd::Refused(x) => answered(b, x, d, a),
         report::PlaneEnd::At(e) => answered(b, 0, d, e),
     }
@@ -211,48 +227,71 @@ fn same10(b: &[u8; 808], k: usize, rows: &[u16; 280]) -> bool {
 }
 
 // A call on 8-bit rows, a preview or a report.
-fn eight(b: &[u8; 808]) -> bool {
+fn eight(b: &[u8; 808], dc: &[u8], ac: &[u8]) -> bool {
     let mut p0 = [b[1]; 280];
     let mut p1 = [b[1]; 280];
     let mut p2 = [b[1]; 280];
     let mut p3 = [b[1]; 280];
     let op = b[0];
     let ok = if op == 0 {
-        plane8(b, &mut p0)
+        plane8(b, dc, ac, &mut p0)
     } else if op == 2 {
-        slice8(b, &mut p0, &mut p1, &mut p2, &mut p3)
+        slice8(b, dc, ac, &mut p0, &mut p1, &mut p2, &mut p3)
     } else if op == 4 {
-        previewed(b, &mut p0, &mut p1)
+        previewed(b, dc, &mut p0, &mut p1)
     } else {
-        reported(b, &mut p0)
+        reported(b, ac, &mut p0)
     };
     ok && same8(b, 0, &p0) && same8(b, 1, &p1) && same8(b, 2, &p2) && same8(b, 3, &p3)
 }
 
 // A call on 10-bit rows.
-fn ten(b: &[u8; 808]) -> bool {
+fn ten(b: &[u8; 808], dc: &[u8], ac: &[u8]) -> bool {
     let fill = replay::twice(b[1]);
     let mut p0 = [fill; 280];
     let mut p1 = [fill; 280];
     let mut p2 = [fill; 280];
     let mut p3 = [fill; 280];
     let ok = if b[0] == 1 {
-        plane10(b, &mut p0)
+        plane10(b, dc, ac, &mut p0)
     } else {
-        slice10(b, &mut p0, &mut p1, &mut p2, &mut p3)
+        slice10(b, dc, ac, &mut p0, &mut p1, &mut p2, &mut p3)
     };
     ok && same10(b, 0, &p0) && same10(b, 1, &p1) && same10(b, 2, &p2) && same10(b, 3, &p3)
 }
 
-fn holds(b: &[u8; 808]) -> bool {
+// The call that the record names, on these streams.
+fn called(b: &[u8; 808], dc: &[u8], ac: &[u8]) -> bool {
     let op = b[0];
     if op == 1 {
-        return ten(b);
+        return ten(b, dc, ac);
     }
     if op == 3 {
-        return ten(b);
+        return ten(b, dc, ac);
     }
-    eight(b)
+    eight(b, dc, ac)
+}
+
+// Streams of ones, as long as may be read, or with a byte more.
+fn on_long(b: &[u8; 808]) -> bool {
+    let dc = [255u8; 245761];
+    let ac = [255u8; 430081];
+    let long = b[3];
+    if long == 1 {
+        called(b, &dc[..245760], &ac[..430080])
+    } else if long == 2 {
+        called(b, &dc, &ac[..430080])
+    } else {
+        called(b, &dc[..245760], &ac)
+    }
+}
+
+fn holds(b: &[u8; 808]) -> bool {
+    if b[3] == 0 {
+        called(b, dc_of(b), ac_of(b))
+    } else {
+        on_long(b)
+    }
 }
 
 // Reads and compares one record; false where there is none.

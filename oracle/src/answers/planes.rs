@@ -113,7 +113,7 @@ fn plain<T: Made>(settings: Settings, place: usize, stride: usize, samples: Vec<
     let (d, a) = sizes(stride);
     let parts = [part(stride, 0), Part::default(), Part::default(), Part::default()];
     Coding {
-        call: Call { op: depth::<T>(), settings, place, parts, fill: 0xA5 },
+        call: Call { op: depth::<T>(), settings, place, parts, fill: 0xA5, long: 0 },
         samples,
         dc: (d, 0),
         ac: (a, 0),

@@ -40,6 +40,7 @@ pub fn list(rng: &mut Rng) -> (Vec<u8>, usize) {
     bad_slices::<u16>(&mut l, rng);
     refused::<u8>(&mut l, rng);
     refused::<u16>(&mut l, rng);
+    long(&mut l);
     let count = l.out.len() / RECORD;
     (l.out, count)
 }
@@ -96,8 +97,9 @@ impl List {
             all[p.at..p.at + p.len].copy_from_slice(r);
         }
         record::numbers(&mut self.out, c, 0, before, number, after);
-        record::bytes(&mut self.out, &before.dc, DC);
-        record::bytes(&mut self.out, &before.ac, AC);
+        let (dc, ac) = if c.long == 0 { (&before.dc[..], &before.ac[..]) } else { (&[][..], &[][..]) };
+        record::bytes(&mut self.out, dc, DC);
+        record::bytes(&mut self.out, ac, AC);
         record::bytes(&mut self.out, &record::stored(&all), ROWS);
     }
 }
@@ -110,7 +112,7 @@ fn call(op: u8, settings: Settings, place: usize, fill: u8, planes: &[(usize, us
         parts[k] = Part { stride: *stride, at, len: *len };
         at += len;
     }
-    Call { op, settings, place, parts, fill }
+    Call { op, settings, place, parts, fill, long: 0 }
 }
 
 fn depth<T: Filled>() -> u8 {
@@ -266,4 +268,23 @@ fn refused<T: Filled>(l: &mut List, rng: &mut Rng) {
     }
     let far = Buffers { dc: vec![0; 9], dc_at: 16_777_215, ac: vec![0; 9], ac_at: 16_777_215 };
     plane::<T>(l, rng, settings, 0, 8, &far);
+}
+
+/// Streams as long as may be read, and with a byte more of DC or of AC: question 7's limits.
+fn long(l: &mut List) {
+    let settings = Settings { preset: 5, dc_shift: 2 };
+    for (long, dc, ac) in [(1, 245_760, 430_080), (2, 245_761, 430_080), (3, 245_760, 430_081)] {
+        let b = Buffers { dc: vec![0xFF; dc], dc_at: 0, ac: vec![0xFF; ac], ac_at: 0 };
+        let taken = if long == 1 { 0 } else { 7 };
+        let one = Call { long, ..call(0, settings, 0, 0x77, &[(8, 128)]) };
+        assert_eq!(l.put::<u8>(&one, &b), taken);
+        assert_eq!(l.put::<u16>(&Call { op: 1, ..one.clone() }, &b), taken);
+        let two = Call { long, ..call(SLICE, settings, 2, 0x77, &[(8, 128), (8, 128)]) };
+        assert_eq!(l.put::<u8>(&two, &b), taken);
+        assert_eq!(l.put::<u16>(&Call { op: SLICE + 1, ..two.clone() }, &b), taken);
+        let preview = Call { long, ..call(PREVIEW, settings, 0, 0x77, &[(8, 1), (0, 1)]) };
+        assert_eq!(l.look(&preview, &b), if long == 2 { 7 } else { 0 });
+        let report = Call { long, ..call(REPORT, settings, 0, 0x77, &[(8, 2)]) };
+        assert_eq!(l.look(&report, &b), if long == 3 { 7 } else { 0 });
+    }
 }

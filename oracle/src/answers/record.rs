@@ -26,12 +26,15 @@ pub struct Call {
     pub place: usize,
     pub parts: [Part; 4],
     pub fill: u8,
+    /// 0, or which streams are too long to be stored.
+    pub long: u8,
 }
 
 /// The numbers: arguments, answer, and both positions before and behind the call.
 pub fn numbers(out: &mut Vec<u8>, c: &Call, stored: usize, before: &Buffers, number: u32, after: &Buffers) {
-    out.extend([c.op, c.fill, number as u8, 0]);
-    let short = [c.settings.preset, c.settings.dc_shift as usize, c.place, before.dc.len(), before.ac.len(), stored];
+    out.extend([c.op, c.fill, number as u8, c.long]);
+    let (dc, ac) = if c.long == 0 { (before.dc.len(), before.ac.len()) } else { (0, 0) };
+    let short = [c.settings.preset, c.settings.dc_shift as usize, c.place, dc, ac, stored];
     let parts = c.parts.iter().map(|p| p.stride).chain(c.parts.iter().map(|p| p.at)).chain(c.parts.iter().map(|p| p.len));
     for n in short.into_iter().chain(parts) {
         out.extend(u16::try_from(n).unwrap().to_le_bytes());
