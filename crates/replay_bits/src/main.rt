@@ -6,14 +6,8 @@ use bitreader::AcCursor;
 use bitreader::Got;
 use replay::count;
 use replay::number;
-
-fn wide(x: u8) -> usize {
-    x as usize
-}
-
-fn wide16(x: u16) -> usize {
-    x as usize
-}
+use replay::size;
+use replay::wide;
 
 fn long(x: u16) -> u64 {
     x as u64
@@ -54,7 +48,7 @@ fn same(b: &[u8], dc: bool, run: u64, num: u64, end: usize) -> bool {
     if run != long(number(b, 4)) {
         return false;
     }
-    if end != wide16(number(b, 16)) {
+    if end != size(b, 16) {
         return false;
     }
     if dc && run == 1 {
@@ -82,7 +76,7 @@ fn judged(b: &[u8], n: usize, at: usize, dc: bool) -> bool {
 
 fn holds(b: &[u8; 48]) -> bool {
     let dc = b[0] == 1;
-    judged(b, wide(b[1]), wide16(number(b, 2)), dc)
+    judged(b, wide(b[1]), size(b, 2), dc)
 }
 
 // Reads and compares one record; false where there is none.

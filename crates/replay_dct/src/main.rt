@@ -3,6 +3,7 @@
 ghost use Prim.Native.Nat.{_<_};
 use replay::count;
 use replay::lane;
+use replay::wide;
 
 // A block of 64 lanes.
 fn block(b: &[u8], at: usize) -> [i16; 64] {
@@ -85,10 +86,6 @@ fn inverse(nat: [i16; 64], level: i16, ten: bool, preset: usize) -> [i16; 64] {
     } else {
         nat
     }
-}
-
-fn wide(x: u8) -> usize {
-    x as usize
 }
 
 fn holds(b: &[u8; 260]) -> bool {

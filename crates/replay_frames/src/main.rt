@@ -4,19 +4,9 @@ use layout::FrameAnswer;
 use layout::Kind;
 use layout::ViewAnswer;
 use replay::count;
-use replay::number;
-
-fn wide(x: u8) -> usize {
-    x as usize
-}
-
-fn wide16(x: u16) -> usize {
-    x as usize
-}
-
-fn refusal(x: u8) -> u32 {
-    x as u32
-}
+use replay::refusal;
+use replay::size;
+use replay::wide;
 
 fn flag(x: bool) -> u8 {
     if x { 1 } else { 0 }
@@ -85,8 +75,8 @@ fn place(b: &[u8; 148], width: usize, height: usize, frame: &[u8]) -> bool {
 
 // The frame of a record, asked for its header.
 fn header_holds(b: &[u8; 148], s: &[u8], n: usize) -> bool {
-    let width = wide16(number(b, 0));
-    let height = wide16(number(b, 2));
+    let width = size(b, 0);
+    let height = size(b, 2);
     if s.len() < 148 {
         return false;
     }
@@ -99,8 +89,8 @@ fn header_holds(b: &[u8; 148], s: &[u8], n: usize) -> bool {
 
 // The frame of a record, asked for a stream.
 fn place_holds(b: &[u8; 148], s: &[u8], n: usize) -> bool {
-    let width = wide16(number(b, 0));
-    let height = wide16(number(b, 2));
+    let width = size(b, 0);
+    let height = size(b, 2);
     if s.len() < 148 {
         return false;
     }

@@ -2,10 +2,7 @@
 // place, a byte without meaning, and four numbers that the Rust answered.
 use replay::count;
 use replay::number;
-
-fn wide(x: u8) -> usize {
-    x as usize
-}
+use replay::wide;
 
 fn unsigned(x: u8) -> u16 {
     x as u16
