@@ -1,3 +1,5 @@
 pub mod Put
 pub mod Back
 pub mod Read
+pub mod Views
+pub mod Built

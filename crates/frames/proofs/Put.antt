@@ -86,7 +86,7 @@ all-limit : (ac : Bool) (b : Build) (ss : List (List ℕ)) → limitOf ac (after
 all-limit ac b [] = refl
 all-limit ac b (s ∷ ss) = all-limit ac (afterStream b (b .at + (4 + length s))) ss ∙ limit-on ac b (b .at + (4 + length s))
 
-all-at : (b : Build) (ss : List (List ℕ)) → afterAll b ss .at ≡ b .at + length (allStreams ss)
+pub all-at : (b : Build) (ss : List (List ℕ)) → afterAll b ss .at ≡ b .at + length (allStreams ss)
 unfolding allStreams
 all-at b [] = sym (add-zero (b .at))
 all-at b (s ∷ ss) =
@@ -111,7 +111,7 @@ unfolding allStreams
 no-more l = append-nil l
 
 -- ---- the whole frame
-header-length : (interlaced : Bool) (quality shift count : ℕ) → length (headerBytes interlaced quality shift count) ≡ headerLength shift
+pub header-length : (interlaced : Bool) (quality shift count : ℕ) → length (headerBytes interlaced quality shift count) ≡ headerLength shift
 unfolding headerBytes
 header-length interlaced quality zero count = refl
 header-length interlaced quality (suc s) count = refl

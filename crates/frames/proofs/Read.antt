@@ -58,17 +58,17 @@ module _ (w h : ℕ) (interlaced : Bool) (quality shift : ℕ) (size : sizeOk w 
   abbrev head : List ℕ
   head = headerBytes interlaced quality shift (countByte h)
 
-  dc-limit : maxDcLen w < 4294967296
+  pub dc-limit : maxDcLen w < 4294967296
   dc-limit = omega (arith, sized w h size .wide)
 
-  ac-limit : maxAcLen w < 4294967296
+  pub ac-limit : maxAcLen w < 4294967296
   ac-limit = omega (arith, sized w h size .wide)
 
   four : (l : List ℕ) → 2 ≤ length (allStreams (s ∷ ss) ++ l)
   unfolding allStreams
   four l = omega (arith, length-append (streamBytes s ++ allStreams ss) l, length-append (streamBytes s) (allStreams ss), stream-length s)
 
-  dc-walked : (post : List ℕ) → dcStreams w h (head ++ (allStreams (s ∷ ss) ++ post)) ≡ accepted (length head + length (allStreams (s ∷ ss)))
+  pub dc-walked : (post : List ℕ) → dcStreams w h (head ++ (allStreams (s ∷ ss) ++ post)) ≡ accepted (length head + length (allStreams (s ∷ ss)))
   dc-walked post =
       ap₂ (λ (n p : ℕ). streams n (maxDcLen w) (head ++ (allStreams (s ∷ ss) ++ post)) p) (sym count) (head-length interlaced quality shift (countByte h) (allStreams (s ∷ ss) ++ post))
       ∙ streams-read (maxDcLen w) dc-limit head (s ∷ ss) post dcs

@@ -1,9 +1,12 @@
 -- A whole frame by the builder's calls. Document 01, 'Frame'.
+use mathlib.Core.Path.{_≡_}
 use mathlib.Core.Bool.{Bool, true, false}
 use mathlib.Core.List.{List, [], _∷_}
-use Prim.Native.Nat.{ℕ, zero, suc, _≤_}
-use lib.ListN.{length}
-use Rattle.ask.specs.Ask.{Answer, accepted, andThen}
+use Prim.Native.Nat.{ℕ, zero, suc, _-_, _≤_}
+use lib.ListN.{length, take, drop}
+use Rattle.ask.specs.Ask.{Answer, refused, accepted, andThen}
+use Rattle.layout.specs.Geometry.{sizeOk, sliceCount, maxDcLen, maxAcLen}
+use Rattle.layout.specs.Frame.{View}
 use Rattle.builder.specs.Build.{Build, Built, headerOf, streamOf}
 
 -- streams of one kind, those of the slices k, k + 1, .. in turn
@@ -21,3 +24,36 @@ buildOf w h interlaced quality shift dc ac out at =
 abbrev pub Within : ℕ → List (List ℕ) → Type 0
 Within limit [] = Unit {0}
 Within limit (s ∷ ss) = (length s ≤ limit) × Within limit ss
+
+-- "the AC streams of all slices or of none"; bytes may lie behind the last stream only where AC streams are there
+abbrev pub AllOrNone : ℕ → List (List ℕ) → List ℕ → Type 0
+AllOrNone h [] behind = behind ≡ []
+AllOrNone h (a ∷ rest) behind = length (a ∷ rest) ≡ sliceCount h
+
+-- the streams of a whole frame, each within its limit
+pub record Complete (w h : ℕ) (dc ac : List (List ℕ)) (behind : List ℕ) : Type 0 where
+  pub size : sizeOk w h ≡ true
+  pub dcAll : length dc ≡ sliceCount h
+  pub dcFit : Within (maxDcLen w) dc
+  pub acAll : AllOrNone h ac behind
+  pub acFit : Within (maxAcLen w) ac
+
+-- the streams of a kind (true: AC)
+abbrev pub ofKind : Bool → List (List ℕ) → List (List ℕ) → List (List ℕ)
+ofKind false dc ac = dc
+ofKind true dc ac = ac
+
+-- the stream of a slice; question 14: "Slice number below the count .., AC there when wanted"
+abbrev pub streamAt : List (List ℕ) → ℕ → Answer (List ℕ)
+streamAt [] slice = refused 14
+streamAt (s ∷ ss) zero = accepted s
+streamAt (s ∷ ss) (suc slice) = streamAt ss slice
+
+-- the bytes of a view, or its refusal
+abbrev pub bytesOf : List ℕ → Answer View → Answer (List ℕ)
+bytesOf f (refused n) = refused n
+bytesOf f (accepted v) = accepted (take (v .size) (drop (v .offset) f))
+
+-- the bytes that the builder's calls put: from where the frame starts up to where the next byte would go
+abbrev pub frameIn : ℕ → Built → List ℕ
+frameIn at b = take (b .state .at - at) (drop at (b .bytes))
