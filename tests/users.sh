@@ -27,7 +27,7 @@ if [ -s target/users/readme.rs ]; then
     target/users/readme_rust
 fi
 
-# ffmpeg's test source there and back; the PSNR that each quality must reach.
+# ffmpeg's test source there and back; the PSNR in dB that each quality must reach, a little below what it does reach.
 if ! command -v ffmpeg >/dev/null; then
     echo "users: ffmpeg is not installed, its test source is left out"
     exit 0
@@ -45,10 +45,10 @@ for pixels in yuv422p yuv422p10le; do
         awk -v said="$said" -v least="$least" 'BEGIN { split(said, w, "PSNR "); exit !(w[2] ~ /^equal/ || w[2] + 0 >= least) }' ||
             { echo "users: below $least dB"; exit 1; }
     done <<'TABLE'
-36 26
-60 30
-80 34
-90 38
-99 46
+36 34
+60 36
+80 40
+90 44
+99 58
 TABLE
 done
