@@ -46,9 +46,10 @@ pub fn decode_plane8(
     }
     if judge::plane(dc, d, ac, a, stride / 8) {
         let e = decplane::plane8(rows, stride, place, preset, shift, dc, d, ac, a);
-        return ReadAnswer::Accepted(e.dc, e.ac);
+        ReadAnswer::Accepted(e.dc, e.ac)
+    } else {
+        ReadAnswer::Refused(8, d, a)
     }
-    ReadAnswer::Refused(8, d, a)
 }
 
 // Reads a plane of 10-bit samples into its rows, from the positions d and a on.
@@ -65,7 +66,7 @@ pub fn decode_plane10(
 ) -> ReadAnswer
     ensures { λ r. ⌜ answered r (now (rows .exit) ∷ []) ≡ decodePlane (settings ten preset shift) (plane place stride (now (rows .entry))) (buffers (now (dc .entry)) (now (ac .entry))) (positions d a) ⌝ }
 {
-    let n = asks::reading_plane(
+    let number = asks::reading_plane(
         preset,
         shift,
         place,
@@ -76,10 +77,11 @@ pub fn decode_plane10(
         ac.len(),
         a,
     );
-    if 0 < n {
-        return ReadAnswer::Refused(n, d, a);
+    if 0 < number {
+        return ReadAnswer::Refused(number, d, a);
     }
-    if judge::plane(dc, d, ac, a, stride / 8) {
+    let good = judge::plane(dc, d, ac, a, stride / 8);
+    if good {
         let e = decplane::plane10(rows, stride, place, preset, shift, dc, d, ac, a);
         return ReadAnswer::Accepted(e.dc, e.ac);
     }
@@ -106,7 +108,7 @@ pub fn decode_slice8(
 ) -> ReadAnswer
     ensures { λ r. ⌜ answered r (now (p0 .exit) ∷ now (p1 .exit) ∷ now (p2 .exit) ∷ now (p3 .exit) ∷ []) ≡ decodeSlice (settings eight preset shift) count (rows stride0 (now (p0 .entry))) (rows stride1 (now (p1 .entry))) (rows stride2 (now (p2 .entry))) (rows stride3 (now (p3 .entry))) (buffers (now (dc .entry)) (now (ac .entry))) (positions d a) ⌝ }
 {
-    let n = asks::reading_slice(
+    let first = asks::reading_slice(
         count,
         preset,
         shift,
@@ -123,8 +125,8 @@ pub fn decode_slice8(
         ac.len(),
         a,
     );
-    if 0 < n {
-        return ReadAnswer::Refused(n, d, a);
+    if 0 < first {
+        return ReadAnswer::Refused(first, d, a);
     }
     if judge::slice(dc, d, ac, a, count, stride0, stride1, stride2, stride3) {
         let e = decslice::slice8(
@@ -169,7 +171,7 @@ pub fn decode_slice10(
 ) -> ReadAnswer
     ensures { λ r. ⌜ answered r (now (p0 .exit) ∷ now (p1 .exit) ∷ now (p2 .exit) ∷ now (p3 .exit) ∷ []) ≡ decodeSlice (settings ten preset shift) count (rows stride0 (now (p0 .entry))) (rows stride1 (now (p1 .entry))) (rows stride2 (now (p2 .entry))) (rows stride3 (now (p3 .entry))) (buffers (now (dc .entry)) (now (ac .entry))) (positions d a) ⌝ }
 {
-    let n = asks::reading_slice(
+    let number = asks::reading_slice(
         count,
         preset,
         shift,
@@ -186,10 +188,11 @@ pub fn decode_slice10(
         ac.len(),
         a,
     );
-    if 0 < n {
-        return ReadAnswer::Refused(n, d, a);
+    if 0 < number {
+        return ReadAnswer::Refused(number, d, a);
     }
-    if judge::slice(dc, d, ac, a, count, stride0, stride1, stride2, stride3) {
+    let good = judge::slice(dc, d, ac, a, count, stride0, stride1, stride2, stride3);
+    if good {
         let e = decslice::slice10(
             p0,
             stride0,

@@ -65,7 +65,7 @@ pub fn slice10(
     ensures { λ r. ⌜ SliceStored (settings ten preset shift) count (rows stride0 (now (p0 .entry))) (rows stride1 (now (p1 .entry))) (rows stride2 (now (p2 .entry))) (rows stride3 (now (p3 .entry))) (now (dc .entry)) d (now (ac .entry)) a r (now (p0 .exit) ∷ now (p1 .exit) ∷ now (p2 .exit) ∷ now (p3 .exit) ∷ []) ⌝ }
 {
     let e0 = decplane::plane10(p0, stride0, 0, preset, shift, dc, d, ac, a);
-    if count < 2 {
+    if count <= 1 {
         return e0;
     }
     let e1 = decplane::plane10(p1, stride1, 1, preset, shift, dc, e0.dc, ac, e0.ac);

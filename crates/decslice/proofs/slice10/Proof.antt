@@ -54,7 +54,7 @@ returns : tie.Need-returns
 returns c =
     let p = c .before .before .before in
     let s = start p in
-    whole-1 (given s) (s .pre) (p .plane10 .ensures) (c .if1 .taken)
+    whole-1 (given s) (s .pre) (p .plane10 .ensures) (omega (arith, c .if1 .taken))
 
 plane10-requires-2 : tie.Need-plane10-requires-2
 plane10-requires-2 c κs =
