@@ -1,7 +1,8 @@
 /* VMX planes, slice streams and frames.
  *
  * Link with libvmx.a (rt staticlib vmx). Every call is proved to give the answer that docs/PROMISES.md names, on every
- * argument; no call allocates, keeps a pointer or has state of its own.
+ * argument; no call allocates, keeps a pointer or has state of its own. A call takes less than 16 KiB of stack (measured, and
+ * tested by bindings/rust/tests/stack.rs).
  *
  * A call that returns uint32_t under "number" returns 0 where it is accepted, else the number of the first question of
  * the list below that is answered no. A refused call leaves all memory that it was lent as it was, except that a part
