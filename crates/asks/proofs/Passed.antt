@@ -10,8 +10,8 @@ use borrow.Author.Tests.{leb-true, eqb-true}
 use Rattle.ask.specs.Ask.{Question, ask, firstNo}
 use Rattle.slice.specs.Arguments.{Plane, Call, onePlane, oneSlice, settingsOf, planesOf, PerStream}
 use Rattle.slice.specs.Questions.{whichPlanesOk, strideOk, rowsNeeded, rowsOk, each, together, roomForAll, fits, startOk, dcLengthOk, acLengthOk, codingQuestions, readingQuestions}
+use Rattle.askorder.proofs.Laws.{passed}
 use Rattle.asks.specs.ByNumbers.{columnsIn}
-use Rattle.asks.proofs.Laws.{passed}
 
 pub left-yes : (b c : Bool) → b && c ≡ true → b ≡ true
 left-yes true c e = refl

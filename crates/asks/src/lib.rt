@@ -1,9 +1,5 @@
 // The questions 1 to 7 to calls on planes and slices, over numbers: each call's first "no", 0 where there is none.
 // Rows and streams are named by their lengths. Any numbers whatever are allowed; no sum or product overflows.
-pub mod four;
-pub mod one;
-mod order;
-
 ghost use mathlib.Core.Path.{_≡_};
 ghost use mathlib.Core.List.{List};
 ghost use Prim.Native.Nat.{ℕ};
@@ -11,7 +7,8 @@ ghost use lib.ListN.{length};
 ghost use Rattle.ask.specs.Ask.{firstNo};
 ghost use Rattle.slice.specs.Arguments.{Depth};
 ghost use Rattle.slice.specs.Questions.{codingQuestions, readingQuestions};
-ghost use Rattle.asks.specs.ByNumbers.{planeCall, sliceCall, perStream};
+ghost use Rattle.askorder.specs.Order.{perStream};
+ghost use Rattle.asks.specs.ByNumbers.{planeCall, sliceCall};
 
 // To a call that codes one plane.
 pub fn coding_plane(
@@ -27,9 +24,9 @@ pub fn coding_plane(
 ) -> u32
     ensures { λ r. ⌜ ((depth : Depth) (samples : List ℕ) → length samples ≡ rows → r ≡ firstNo (codingQuestions (planeCall depth preset shift place stride samples) (perStream dn an) (perStream d a))) ⌝ }
 {
-    let strides = one::stride_ok(stride);
-    let long = one::rows_ok(stride, rows);
-    order::coding(
+    let strides = askone::stride_ok(stride);
+    let long = askone::rows_ok(stride, rows);
+    askorder::coding(
         preset,
         shift,
         place <= 3,
@@ -57,9 +54,9 @@ pub fn reading_plane(
 ) -> u32
     ensures { λ r. ⌜ ((depth : Depth) (samples : List ℕ) → length samples ≡ rows → r ≡ firstNo (readingQuestions (planeCall depth preset shift place stride samples) (perStream dn an) (perStream d a))) ⌝ }
 {
-    let strides = one::stride_ok(stride);
-    let long = one::rows_ok(stride, rows);
-    order::reading(preset, shift, place <= 3, strides, long, dn, d, an, a)
+    let strides = askone::stride_ok(stride);
+    let long = askone::rows_ok(stride, rows);
+    askorder::reading(preset, shift, place <= 3, strides, long, dn, d, an, a)
 }
 
 // To a call that codes the first `count` of four planes; the others are not asked about.
@@ -82,11 +79,11 @@ pub fn coding_slice(
 ) -> u32
     ensures { λ r. ⌜ ((depth : Depth) (p0 p1 p2 p3 : List ℕ) → length p0 ≡ r0 → length p1 ≡ r1 → length p2 ≡ r2 → length p3 ≡ r3 → r ≡ firstNo (codingQuestions (sliceCall depth preset shift count s0 p0 s1 p1 s2 p2 s3 p3) (perStream dn an) (perStream d a))) ⌝ }
 {
-    let which = one::count_ok(count);
-    let strides = four::strides_ok(count, s0, s1, s2, s3);
-    let long = four::rows_ok(count, s0, r0, s1, r1, s2, r2, s3, r3);
-    let columns = four::columns(count, s0, s1, s2, s3);
-    order::coding(preset, shift, which, strides, long, columns, dn, d, an, a)
+    let which = askone::count_ok(count);
+    let strides = askfour::strides_ok(count, s0, s1, s2, s3);
+    let long = askfour::rows_ok(count, s0, r0, s1, r1, s2, r2, s3, r3);
+    let columns = askfour::columns(count, s0, s1, s2, s3);
+    askorder::coding(preset, shift, which, strides, long, columns, dn, d, an, a)
 }
 
 // To a call that reads the first `count` of four planes.
@@ -109,8 +106,8 @@ pub fn reading_slice(
 ) -> u32
     ensures { λ r. ⌜ ((depth : Depth) (p0 p1 p2 p3 : List ℕ) → length p0 ≡ r0 → length p1 ≡ r1 → length p2 ≡ r2 → length p3 ≡ r3 → r ≡ firstNo (readingQuestions (sliceCall depth preset shift count s0 p0 s1 p1 s2 p2 s3 p3) (perStream dn an) (perStream d a))) ⌝ }
 {
-    let which = one::count_ok(count);
-    let strides = four::strides_ok(count, s0, s1, s2, s3);
-    let long = four::rows_ok(count, s0, r0, s1, r1, s2, r2, s3, r3);
-    order::reading(preset, shift, which, strides, long, dn, d, an, a)
+    let which = askone::count_ok(count);
+    let strides = askfour::strides_ok(count, s0, s1, s2, s3);
+    let long = askfour::rows_ok(count, s0, r0, s1, r1, s2, r2, s3, r3);
+    askorder::reading(preset, shift, which, strides, long, dn, d, an, a)
 }

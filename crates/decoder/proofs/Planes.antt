@@ -13,7 +13,8 @@ use Rattle.slice.specs.Questions.{readingQuestions}
 use Rattle.slice.specs.Calls.{PlanesRead, badPlanes, planesRead, byPlane, readPlanes, Decoded, rowsMade, decodePlane}
 use Rattle.planebits.specs.declared.Ends.{Ends}
 use Rattle.encplane.specs.Coding.{settings, plane}
-use Rattle.asks.specs.ByNumbers.{planeCall, perStream}
+use Rattle.askorder.specs.Order.{perStream}
+use Rattle.asks.specs.ByNumbers.{planeCall}
 use Rattle.asks.proofs.Passed.{ReadingLegal, reading-legal}
 use Rattle.blockread.specs.On.{goodPlane}
 use Rattle.judge.specs.Good.{goodPlanes, buffers, positions}

@@ -12,7 +12,8 @@ use Rattle.slice.specs.Calls.{readPlanes, Decoded, decodeSlice}
 use Rattle.planebits.specs.declared.Ends.{Ends}
 use Rattle.encplane.specs.Coding.{settings}
 use Rattle.encslice.specs.SliceCoding.{rows}
-use Rattle.asks.specs.ByNumbers.{sliceCall, perStream}
+use Rattle.askorder.specs.Order.{perStream}
+use Rattle.asks.specs.ByNumbers.{sliceCall}
 use Rattle.asks.proofs.Passed.{LegalPlane, Every, ReadingLegal, reading-legal}
 use Rattle.judge.specs.Good.{goodPlanes, buffers, positions, strides}
 use Rattle.judge.proofs.Planes.{slice-strides}

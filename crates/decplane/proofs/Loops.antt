@@ -15,7 +15,7 @@ use Rattle.slice.specs.ReadPlane.{BlockRead, readPlane}
 use Rattle.slice.specs.Plane.{columnsOf, blocksOf, blockSamples}
 use Rattle.planebits.specs.declared.Ends.{Ends}
 use Rattle.encplane.specs.Coding.{settings}
-use Rattle.encplane.proofs.Laws.{corner-fits}
+use Rattle.planes.proofs.Laws.{corner-fits}
 use Rattle.blockread.specs.On.{readOn, goodPlane, blockOf, Ready, NextBlock}
 use Rattle.blockread.specs.declared.Stand.{Stand}
 use Rattle.blockread.specs.declared.BlockGot.{BlockGot}

@@ -27,7 +27,7 @@ pub fn plane8(
     for j in 0..2 {
         for k in 0..cols {
             let g = blockread::next_block(dc, ac, s, shift, &z);
-            let c = encplane::corner(stride, j, k);
+            let c = planes::corner(stride, j, k);
             let nat = g.nat;
             let flat = g.flat;
             painted::paint8(&mut rows[c..], stride, nat, !flat, preset, &q, v, &t);

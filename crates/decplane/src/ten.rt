@@ -27,7 +27,7 @@ pub fn plane10(
     for j in 0..2 {
         for k in 0..cols {
             let g = blockread::next_block(dc, ac, s, shift, &z);
-            let c = encplane::corner(stride, j, k);
+            let c = planes::corner(stride, j, k);
             let nat = g.nat;
             painted::paint16(&mut rows[c..], stride, nat, preset, &q, v, &t);
             let next = g.next;

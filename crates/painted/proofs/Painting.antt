@@ -13,7 +13,7 @@ use Rattle.paint.proofs.Over.{by-eq, by-lt, getD-over, length-over, over-by, ov
 use Rattle.slice.specs.Arguments.{Depth, Plane}
 use Rattle.slice.specs.ReadPlane.{BlockRead}
 use Rattle.slice.specs.Plane.{columnsOf, blocksOf, blockAt, withinBlock, blockSamples, sampleFrom, reconstructAt}
-use Rattle.encplane.proofs.Laws.{corner-fits}
+use Rattle.planes.proofs.Laws.{corner-fits}
 use Rattle.painted.specs.FirstBlocks.{paintedAt, firstBlocks, sampleIn, paintedRows}
 use Rattle.painted.proofs.Corner.{block-below, block-at, within-at, inside-at, not-before, only-here}
 

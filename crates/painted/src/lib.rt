@@ -13,14 +13,14 @@ ghost use Rattle.painted.specs.Block.{natural, BlockPainted, BlockPainte
 pub fn level8(place: usize) -> i16
     ensures { λ r. ⌜ r ≡ level eight place ⌝ }
 {
-    encplane::level8(place) as i16
+    planes::level8(place) as i16
 }
 
 // The level of a 10-bit plane.
 pub fn level10(place: usize) -> i16
     ensures { λ r. ⌜ r ≡ level ten place ⌝ }
 {
-    encplane::level10(place) as i16
+    planes::level10(place) as i16
 }
 
 // Paints an 8-bit block: flat when no AC symbol was read for it, else by the inverse transform.

@@ -130,7 +130,7 @@ fn preview_number(
     if 3 < place {
         return 3;
     }
-    if asks::one::stride_ok(stride) {
+    if askone::stride_ok(stride) {
         if over < stride / 8 {
             return 5;
         }

@@ -81,7 +81,7 @@ fn store_report(ac: &[u8], at: usize, n: usize, report: &mut [u8])
 fn report_number(stride: usize, room: usize, bytes: usize, at: usize) -> u32
     ensures { λ r. ⌜ ((report : List ℕ) → length report ≡ room → r ≡ firstNo (reportQuestions stride report bytes at)) ⌝ }
 {
-    if asks::one::stride_ok(stride) {
+    if askone::stride_ok(stride) {
         if room < stride / 4 {
             return 5;
         }

@@ -9,8 +9,11 @@ use Rattle.ask.specs.Ask.{firstNo}
 use Rattle.slice.specs.Arguments.{eight, Plane, PerStream}
 use Rattle.slice.specs.Questions.{strideOk, countOk, each, lengthsAtMost, together, roomForAll, planeSizeQuestions, sliceSizeQuestions}
 use Rattle.slice.specs.Previews.{nothing, sizedBy, planeSize, sliceSize, lengthsOfAll, ofStride, firstOfFour}
-use Rattle.asks.specs.ByNumbers.{allOf, sumOf, columnsIn, roomOf}
-use Rattle.asks.proofs.Laws.{yes, no, none, each-take, columns-take, room-is}
+use Rattle.askfour.specs.Firsts.{allOf, sumOf}
+use Rattle.askorder.specs.Order.{roomOf}
+use Rattle.askorder.proofs.Laws.{yes, no, none}
+use Rattle.asks.specs.ByNumbers.{columnsIn}
+use Rattle.asks.proofs.Laws.{each-take, columns-take, room-is}
 use Rattle.asks.proofs.Passed.{stride-legal, columns-le}
 
 by-number : (m : ℕ) (lengths : PerStream) (n : ℕ) → m ≡ suc n → record { number = suc n; lengths = nothing } ≡ sizedBy m lengths

@@ -14,7 +14,7 @@ pub enum SizeAnswer {
 pub fn plane_size(stride: usize) -> SizeAnswer
     ensures { λ r. ⌜ sizeSays r ≡ planeSize stride ⌝ }
 {
-    if !asks::one::stride_ok(stride) {
+    if !askone::stride_ok(stride) {
         return SizeAnswer::Refused(4);
     }
     let columns = stride / 8;
@@ -25,12 +25,12 @@ pub fn plane_size(stride: usize) -> SizeAnswer
 pub fn slice_size(count: usize, s0: usize, s1: usize, s2: usize, s3: usize) -> SizeAnswer
     ensures { λ r. ⌜ sizeSays r ≡ sliceSize count s0 s1 s2 s3 ⌝ }
 {
-    if !asks::one::count_ok(count) {
+    if !askone::count_ok(count) {
         return SizeAnswer::Refused(3);
     }
-    if !asks::four::strides_ok(count, s0, s1, s2, s3) {
+    if !askfour::strides_ok(count, s0, s1, s2, s3) {
         return SizeAnswer::Refused(4);
     }
-    let columns = asks::four::columns(count, s0, s1, s2, s3);
+    let columns = askfour::columns(count, s0, s1, s2, s3);
     SizeAnswer::Sized(8 * columns, 394 * columns)
 }

@@ -4,7 +4,8 @@ use mathlib.Core.Path.{refl, sym, ap, _∙_}
 use native.Mathlib.Omega.{arith}
 use lib.Dec.{leb}
 use Rattle.slice.specs.Questions.{strideOk, rowsNeeded}
-use Rattle.asks.specs.ByNumbers.{planeCall, perStream}
+use Rattle.askorder.specs.Order.{perStream}
+use Rattle.asks.specs.ByNumbers.{planeCall}
 use Rattle.asks.proofs.Laws.{and-yes, coding-is}
 use Rattle.asks.proofs.coding_plane.Statement.{statement}
 use Rattle.asks.proofs.coding_plane.Tie as tie

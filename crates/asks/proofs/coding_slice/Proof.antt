@@ -3,7 +3,8 @@ use borrow.Author.Needs.{needs}
 use mathlib.Core.Path.{_∙_}
 use Rattle.slice.specs.Arguments.{planesLent}
 use Rattle.slice.specs.Questions.{strideOk}
-use Rattle.asks.specs.ByNumbers.{sliceCall, perStream}
+use Rattle.askorder.specs.Order.{perStream}
+use Rattle.asks.specs.ByNumbers.{sliceCall}
 use Rattle.asks.proofs.Laws.{each-take, rows-take, columns-take, coding-is}
 use Rattle.asks.proofs.coding_slice.Statement.{statement}
 use Rattle.asks.proofs.coding_slice.Tie as tie

@@ -3,7 +3,8 @@ use borrow.Author.Needs.{needs}
 use mathlib.Core.Path.{refl, sym, ap, _∙_}
 use lib.Dec.{leb}
 use Rattle.slice.specs.Questions.{strideOk, rowsNeeded}
-use Rattle.asks.specs.ByNumbers.{planeCall, perStream}
+use Rattle.askorder.specs.Order.{perStream}
+use Rattle.asks.specs.ByNumbers.{planeCall}
 use Rattle.asks.proofs.Laws.{and-yes, reading-is}
 use Rattle.asks.proofs.reading_plane.Statement.{statement}
 use Rattle.asks.proofs.reading_plane.Tie as tie

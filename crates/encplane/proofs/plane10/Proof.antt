@@ -10,7 +10,8 @@ use Rattle.slice.specs.Arguments.{ten}
 use Rattle.slice.specs.Plane.{blockCoefficients}
 use Rattle.bitacc.proofs.Writer.{wrote-length}
 use Rattle.encplane.specs.Coding.{plane}
-use Rattle.encplane.proofs.Laws.{corner-fits, block-16, part-is, part-long}
+use Rattle.planes.proofs.Laws.{corner-fits, part-is, part-long}
+use Rattle.encplane.proofs.Laws.{block-16}
 use Rattle.encplane.proofs.Loops.{Coding, Row, begun, room, coded, next-row, last-room, done}
 use Rattle.encplane.proofs.plane10.Statement.{statement}
 use Rattle.encplane.proofs.plane10.Tie as tie

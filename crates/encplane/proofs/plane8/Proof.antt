@@ -10,7 +10,8 @@ use Rattle.slice.specs.Arguments.{eight}
 use Rattle.slice.specs.Plane.{blockCoefficients}
 use Rattle.bitacc.proofs.Writer.{wrote-length}
 use Rattle.encplane.specs.Coding.{plane}
-use Rattle.encplane.proofs.Laws.{corner-fits, block-8, part-is, part-long}
+use Rattle.planes.proofs.Laws.{corner-fits, part-is, part-long}
+use Rattle.encplane.proofs.Laws.{block-8}
 use Rattle.encplane.proofs.Loops.{Coding, Row, begun, room, coded, next-row, last-room, done}
 use Rattle.encplane.proofs.plane8.Statement.{statement}
 use Rattle.encplane.proofs.plane8.Tie as tie

@@ -3,7 +3,7 @@ use Prim.Native.Nat.{_+_, _-_, _*_, _≤_}
 use native.Mathlib.Omega.{arith}
 use borrow.Author.Needs.{needs}
 use lib.ListN.{length}
-use Rattle.encplane.proofs.Laws.{part-is, part-long}
+use Rattle.planes.proofs.Laws.{part-is, part-long}
 use Rattle.probe_blocks.proofs.probe_blocks_forward8.Statement.{statement}
 use Rattle.probe_blocks.proofs.probe_blocks_forward8.Tie as tie
 

@@ -8,7 +8,7 @@ use lib.ListN.{take}
 use native.Mathlib.Omega.{arith}
 use Prim.Native.Nat.{_≤_}
 use Rattle.slice.specs.Questions.{strideOk, countOk}
-use Rattle.asks.specs.ByNumbers.{allOf}
+use Rattle.askfour.specs.Firsts.{allOf}
 use Rattle.sizes.proofs.Laws.{no-count, no-strides, slice-yes, slice-columns}
 use Rattle.sizes.proofs.slice_size.Statement.{statement}
 use Rattle.sizes.proofs.slice_size.Tie as tie

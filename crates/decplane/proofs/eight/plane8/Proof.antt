@@ -8,7 +8,7 @@ use borrow.Author.Needs.{needs, sfits-of}
 use mir.Facts.{toZ-ofZ}
 use Rattle.slice.specs.Arguments.{eight}
 use Rattle.encplane.specs.Coding.{plane}
-use Rattle.encplane.proofs.Laws.{part-is, part-long}
+use Rattle.planes.proofs.Laws.{part-is, part-long}
 use Rattle.decplane.proofs.Loops.{Behind, Row, begun, as-long, asks, inside, next, next-row, ended, done}
 use Rattle.decplane.proofs.eight.plane8.Statement.{statement}
 use Rattle.decplane.proofs.eight.plane8.Tie as tie

@@ -9,7 +9,7 @@ use borrow.Author.Needs.{needs, sfits-of}
 use mir.Facts.{toZ-ofZ}
 use Rattle.slice.specs.Arguments.{ten}
 use Rattle.encplane.specs.Coding.{plane}
-use Rattle.encplane.proofs.Laws.{corner-fits, part-is, part-long}
+use Rattle.planes.proofs.Laws.{corner-fits, part-is, part-long}
 use Rattle.decplane.proofs.Loops.{Behind, Row, begun, as-long, asks, inside, next, next-row, ended, done}
 use Rattle.decplane.proofs.ten.plane10.Statement.{statement}
 use Rattle.decplane.proofs.ten.plane10.Tie as tie

@@ -1,0 +1,40 @@
+// What coding and reading a plane share: its level, and where its blocks have their corners.
+ghost use mathlib.Core.Path.{_≡_};
+ghost use Prim.Native.Nat.{_+_, _*_, _<_, _≤_};
+ghost use lib.IntN.{pos};
+ghost use Rattle.slice.specs.Arguments.{eight, ten};
+ghost use Rattle.slice.specs.Plane.{level};
+
+// The level of an 8-bit plane.
+pub fn level8(place: usize) -> u16
+    ensures { λ r. ⌜ (pos r ≡ level eight place) × (r < 32768) ⌝ }
+{
+    if place == 0 {
+        return 128;
+    }
+    if place == 3 {
+        return 128;
+    }
+    0
+}
+
+// The level of a 10-bit plane.
+pub fn level10(place: usize) -> u16
+    ensures { λ r. ⌜ (pos r ≡ level ten place) × (r < 32768) ⌝ }
+{
+    if place == 0 {
+        return 512;
+    }
+    if place == 3 {
+        return 512;
+    }
+    0
+}
+
+// Where the block in block row j and block column i has its corner.
+pub fn corner(stride: usize, j: usize, i: usize) -> usize
+    requires { ⌜ (j < 2) × (stride ≤ 7680) × (i < 960) ⌝ }
+    ensures { λ r. ⌜ r ≡ 8 * j * stride + 8 * i ⌝ }
+{
+    8 * j * stride + 8 * i
+}
