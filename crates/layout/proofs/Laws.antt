@@ -2,6 +2,8 @@
 use mathlib.Core.Path.{_≡_, refl, sym, ap, _∙_}
 use mathlib.Core.Bool.{Bool, true, false, _&&_}
 use mathlib.Core.List.{List, [], _∷_}
+use mir.Val.{Fits}
+use mir.Syntax.{w64}
 use Prim.Native.Nat.{ℕ, zero, suc, _+_, _-_, _*_, _/_, _%_, _≤_, _<_}
 use native.Mathlib.Omega.{arith}
 use native.Mathlib.Numerals.{add-one}
@@ -10,7 +12,13 @@ use lib.ListN.{length, getD}
 use borrow.Author.Tests.{lt-ltb, le-ltb, le-leb, lt-leb, eq-eqb, ne-eqb, leb-true, leb-false}
 use Rattle.ask.specs.Ask.{Answer, refused, accepted, Question, ask, firstNo, asked, andThen, byNumber}
 use Rattle.layout.specs.Geometry.{sizeOk, sizeQuestion, sliceCount, alignedHeight, imageRowOf, rowIf, interlaceCapable, geometryOf, layoutOf, maxDcLen, maxAcLen}
-use Rattle.layout.specs.Frame.{byteAt, lengthAt, oneStream, streams, headerQuestions, formatAt, shiftIn, countOk, isInterlaced, dcStreams, frameRead, FrameRead, parseOf, Legal, View, partAt, nthStream, kindStart, kindLimit, kindView, viewOf, wanted}
+use Rattle.layout.specs.Views.{placeSays, frameSays, viewSays, isAc}
+use Rattle.layout.specs.declared.Place.{Place}
+use Rattle.layout.specs.declared.FrameAnswer.{FrameAnswer}
+use Rattle.layout.specs.declared.ViewAnswer.{ViewAnswer}
+use Rattle.layout.specs.declared.Kind.{Kind}
+use Rattle.layout.specs.declared.Kind.the-variants as kind
+use Rattle.layout.specs.Frame.{byteAt, lengthAt, oneStream, streams, headerQuestions, formatAt, headerLength, shiftIn, countOk, isInterlaced, dcStreams, frameRead, FrameRead, parseOf, Legal, View, partAt, nthStream, kindStart, kindLimit, kindView, viewOf, wanted}
 
 -- ---- the size
 and-left : (a b : Bool) → a && b ≡ true → a ≡ true
@@ -51,6 +59,25 @@ never g = let z : _≡_ {A = ℕ} 0 1 = cc in omega arith
 
 pub same : {a b : ℕ} → accepted a ≡ accepted b → a ≡ b
 same g = cc
+
+-- what a call answered, known by the case that its result is of
+pub place-told : {r x : Place} {a : Answer ℕ} → placeSays r ≡ a → r ≡ x → a ≡ placeSays x
+place-told e d = sym e ∙ ap placeSays d
+
+pub frame-told : {r x : FrameAnswer} {a : Answer FrameRead} → frameSays r ≡ a → r ≡ x → a ≡ frameSays x
+frame-told e d = sym e ∙ ap frameSays d
+
+pub view-told : {r x : ViewAnswer} {a : Answer View} → viewSays r ≡ a → r ≡ x → a ≡ viewSays x
+view-told e d = sym e ∙ ap viewSays d
+
+-- no number above 0
+pub none-is : {n m : ℕ} → n ≡ m → n ≤ 0 → m ≡ 0
+none-is e h = omega arith
+
+-- ---- a length word
+pub length-is : (f : List ℕ) (p : ℕ) {a b c d : ℕ} → a ≡ byteAt f p → b ≡ byteAt f (p + 1) → c ≡ byteAt f (p + 2) → d ≡ byteAt f (p + 3) → a + 256 * (b + 256 * (c + 256 * d)) ≡ lengthAt f p
+unfolding lengthAt
+length-is f p x y z u = rw (x, y, z, u)
 
 -- ---- one stream
 module _ (limit : ℕ) (f : List ℕ) (p : ℕ) where
@@ -110,6 +137,14 @@ format-small f = go (eqb (byteAt f 0) 3) refl
     go : (b : Bool) → eqb (byteAt f 0) 3 ≡ b → formatAt f ≤ 2
     go true e = rw e (omega arith)
     go false e = rw e (omega arith)
+
+-- behind the header, still in the frame
+module _ (f : List ℕ) {at : ℕ} (e : at ≡ formatAt f) where
+  pub header-fits : Fits w64 (at + 3)
+  header-fits = omega (arith, format-small f)
+
+  pub begins-inside : 5 ≤ length f → at + 3 ≤ length f
+  begins-inside k = omega (arith, format-small f)
 
 module _ (h : ℕ) (f : List ℕ) {at : ℕ} (e : at ≡ formatAt f) where
   pub progressive : byteAt f at ≡ 1 → isInterlaced h f ≡ false
@@ -210,10 +245,10 @@ module _ (w h : ℕ) (f : List ℕ) where
 
 -- the code's walks are the definitions' walks
 module _ (w h : ℕ) (f : List ℕ) {slices : ℕ} {a : Answer ℕ} where
-  pub dc-walk : {limit at : ℕ} → slices ≡ sliceCount h → limit ≡ maxDcLen w → at ≡ formatAt f → streams slices limit f (at + 3) ≡ a → dcStreams w h f ≡ a
+  pub dc-walk : {limit at : ℕ} → slices ≡ sliceCount h → limit ≡ maxDcLen w → at ≡ formatAt f → a ≡ streams slices limit f (at + 3) → a ≡ dcStreams w h f
   dc-walk p q r e = rw (← p, ← q, ← r) e
 
-  pub ac-walk : (q : ℕ) {limit : ℕ} → slices ≡ sliceCount h → limit ≡ maxAcLen w → streams slices limit f q ≡ a → streams (sliceCount h) (maxAcLen w) f q ≡ a
+  pub ac-walk : (q : ℕ) {limit : ℕ} → slices ≡ sliceCount h → limit ≡ maxAcLen w → a ≡ streams slices limit f q → a ≡ streams (sliceCount h) (maxAcLen w) f q
   ac-walk q p r e = rw (← p, ← r) e
 
 -- an accepted frame has a legal header
@@ -241,6 +276,9 @@ streams-within (suc n) limit f p h = go (oneStream limit f p) refl (λ q k. stre
 pub streams-inside : (n limit : ℕ) (f : List ℕ) (p : ℕ) {q : ℕ} → p ≤ length f → streams n limit f p ≡ accepted q → q ≤ length f
 streams-inside n limit f p h e = rw e at (streams-within n limit f p h)
 
+pub dc-inside : (w h : ℕ) (f : List ℕ) {q : ℕ} → 5 ≤ length f → dcStreams w h f ≡ accepted q → q ≤ length f
+dc-inside w h f k e = streams-inside (sliceCount h) (maxDcLen w) f (headerLength f) (begins-inside f refl k) e
+
 -- ---- a stream behind n others
 module _ (n limit : ℕ) (f : List ℕ) (p : ℕ) where
   pub nth-walk : {m : ℕ} → streams n limit f p ≡ refused m → nthStream n limit f p ≡ refused m
@@ -265,10 +303,21 @@ one-end limit f p {q} e = go (leb (p + 4) (length f)) refl (leb (lengthAt f p) l
     go true x true y false z = absurd (never (sym (one-short limit f p (leb-true _ _ x) (leb-true _ _ y) (leb-false _ _ z)) ∙ e))
     go true x true y true z = same (sym e ∙ one-whole limit f p (leb-true _ _ x) (leb-true _ _ y) (leb-true _ _ z))
 
+-- an accepted stream ends behind its length word
+module _ (limit : ℕ) (f : List ℕ) (p : ℕ) {q : ℕ} (e : oneStream limit f p ≡ accepted q) where
+  pub part-fits : Fits w64 q → Fits w64 (p + 4)
+  part-fits k = omega (arith, one-end limit f p e)
+
+  pub part-before : p + 4 ≤ q
+  part-before = omega (arith, one-end limit f p e)
+
 pub part-is : (f : List ℕ) (q : ℕ) {e : ℕ} → e ≡ q + 4 + lengthAt f q → record { offset = q + 4; size = e - (q + 4) } ≡ partAt f q
 part-is f q {e} g =
     let z : e - (q + 4) ≡ lengthAt f q = omega arith in
     ap (λ (n : ℕ). record { offset = q + 4; size = n }) z
+
+pub nth-part : (n limit : ℕ) (f : List ℕ) (p : ℕ) {q e : ℕ} → streams n limit f p ≡ accepted q → oneStream limit f q ≡ accepted e → accepted (record { offset = q + 4; size = e - (q + 4) }) ≡ nthStream n limit f p
+nth-part n limit f p {q} d e = ap accepted (part-is f q (one-end limit f q e)) ∙ sym (nth-yes n limit f p d e)
 
 -- ---- the views of both kinds
 module _ (w h : ℕ) (f : List ℕ) (slice : ℕ) where
@@ -299,6 +348,24 @@ module _ (w h : ℕ) (f : List ℕ) (ac : Bool) (slice : ℕ) where
     pub view-yes : slice < sliceCount h → wanted ac r ≡ true → viewOf w h f ac slice ≡ kindView ac w h f slice
     unfolding viewOf asked firstNo
     view-yes k d = rw (e, lt-ltb slice (sliceCount h) k, d)
+
+-- a number of a slice, beside the count as the code has it
+pub below-count : {n m slice : ℕ} → n ≡ m → slice < n → slice < m
+below-count e k = omega arith
+
+pub above-count : {n m slice : ℕ} → n ≡ m → n ≤ slice → m ≤ slice
+above-count e k = omega arith
+
+-- the view of a kind that the code names
+module _ (w h : ℕ) (f : List ℕ) (slice : ℕ) {r : FrameRead} {k : Kind} (e : parseOf w h f ≡ accepted r) (l : slice < sliceCount h) where
+  pub dc-wanted : k ≡ kind.Dc → viewOf w h f (isAc k) slice ≡ kindView false w h f slice
+  dc-wanted d = rw d (view-yes w h f false slice e l refl)
+
+  pub ac-wanted : k ≡ kind.Ac → r .acThere ≡ true → viewOf w h f (isAc k) slice ≡ kindView true w h f slice
+  ac-wanted d t = rw d (view-yes w h f true slice e l t)
+
+  pub ac-missing : k ≡ kind.Ac → r .acThere ≡ false → viewOf w h f (isAc k) slice ≡ refused 14
+  ac-missing d t = rw d (view-unwanted w h f true slice e l t)
 
 -- ---- a view lies in the frame
 module _ (f : List ℕ) where

@@ -1,84 +1,65 @@
 -- `layout::nth_stream`.
 use borrow.Author.Needs.{needs}
-use mathlib.Core.Path.{_≡_, refl, sym, _∙_, ap}
-use mathlib.Core.Bool.{true, false}
-use native.Mathlib.Omega.{arith}
-use Prim.Native.Nat.{ℕ, _+_, _-_, _<_, _≤_}
-use lib.ListN.{length}
-use Rattle.ask.specs.Ask.{accepted, refused}
-use Rattle.layout.specs.Frame.{View, lengthAt}
-use Rattle.layout.specs.Views.{placeSays}
-use Rattle.layout.specs.declared.Place.the-variants as place
-use Rattle.layout.proofs.Laws.{streams-inside, one-inside, one-end, nth-walk, nth-no, nth-yes, part-is}
+use mathlib.Core.Path.{_≡_, sym}
+use mir.Val.{Fits}
+use mir.Syntax.{w64}
+use Prim.Native.Nat.{_+_}
+use Rattle.ask.specs.Ask.{accepted}
+use Rattle.layout.specs.Frame.{streams, oneStream}
+use Rattle.layout.proofs.Laws.{place-told, streams-inside, part-fits, part-before, nth-walk, nth-no, nth-part}
 use Rattle.layout.proofs.nth_stream.Statement.{statement}
 use Rattle.layout.proofs.nth_stream.Tie as tie
 
+-- the n streams end at q
+abbrev start : tie.After-q → tie.Start
+start k = k .before .before .before .before
+
+passed : (k : tie.After-q) → streams (start k .args .n) (start k .args .limit) (start k .args .f .now) (start k .args .p) ≡ accepted (k .q .given .0 .0)
+passed k = place-told (k .before .before .walk .ensures) (k .q .given .1)
+
+-- and the one from q on at e
+abbrev at-q : tie.After-e → tie.After-q
+at-q l = l .before .before .before .before
+
+one-passed : (l : tie.After-e) → oneStream (start (at-q l) .args .limit) (start (at-q l) .args .f .now) (at-q l .q .given .0 .0) ≡ accepted (l .e .given .0 .0)
+one-passed l = place-told (l .before .before .one-stream .ensures) (l .e .given .1)
+
 one-stream-requires : tie.Need-one-stream-requires
 one-stream-requires c κs =
-    let v = c .before .before .before in
-    let a = v .before .before .args in
-    let e : place.At (c .before .q .given .0 .0) ≡ v .walk .result = cc in
-    streams-inside (a .n) (a .limit) (a .f .now) (a .p) (search needs) (sym (ap placeSays e ∙ v .walk .ensures))
+    let s = start (c .before) in
+    streams-inside (s .args .n) (s .args .limit) (s .args .f .now) (s .args .p) (s .pre) (passed (c .before))
 
-add-t13 : tie.Need-add-t13
-add-t13 c =
-    let u = c .before .before .before in
-    let k = u .before in
-    let v = k .before .before .before in
-    let a = v .before .before .args in
-    let e : place.At (c .before .e .given .0 .0) ≡ u .one-stream .result = cc in
-    let q = k .before .q .given .0 .0 in
-    omega (arith, one-end (a .limit) (a .f .now) q (sym (ap placeSays e ∙ u .one-stream .ensures)), one-inside (a .limit) (a .f .now) q _ (sym (ap placeSays e ∙ u .one-stream .ensures)))
-
-add-t14 : tie.Need-add-t14
-add-t14 c =
-    let u = c .before .before .before in
-    let k = u .before in
-    let v = k .before .before .before in
-    let a = v .before .before .args in
-    let e : place.At (c .before .e .given .0 .0) ≡ u .one-stream .result = cc in
-    let q = k .before .q .given .0 .0 in
-    omega (arith, one-end (a .limit) (a .f .now) q (sym (ap placeSays e ∙ u .one-stream .ensures)), one-inside (a .limit) (a .f .now) q _ (sym (ap placeSays e ∙ u .one-stream .ensures)))
+fits-behind : (c : tie.After-known-told4) → Fits w64 (at-q (c .before) .q .given .0 .0 + 4)
+fits-behind c =
+    let l = c .before in
+    let s = start (at-q l) in
+    part-fits (s .args .limit) (s .args .f .now) (at-q l .q .given .0 .0) (one-passed l) (record { fits = c .known-told4 .given .0 .1 })
 
 sub-t15 : tie.Need-sub-t15
 sub-t15 c =
-    let u = c .before .before .before in
-    let k = u .before in
-    let v = k .before .before .before in
-    let a = v .before .before .args in
-    let e : place.At (c .before .e .given .0 .0) ≡ u .one-stream .result = cc in
-    let q = k .before .q .given .0 .0 in
-    omega (arith, one-end (a .limit) (a .f .now) q (sym (ap placeSays e ∙ u .one-stream .ensures)))
+    let s = start (at-q (c .before)) in
+    part-before (s .args .limit) (s .args .f .now) (at-q (c .before) .q .given .0 .0) (one-passed (c .before))
 
 returns : tie.Need-returns
 returns c =
     let v = c .before .before .before in
     let a = v .before .before .args in
-    let e : place.Refused (c .before .x .given .0 .0) ≡ v .walk .result = cc in
-    sym (nth-walk (a .n) (a .limit) (a .f .now) (a .p) (sym (ap placeSays e ∙ v .walk .ensures)))
+    sym (nth-walk (a .n) (a .limit) (a .f .now) (a .p) (place-told (v .walk .ensures) (c .before .x .given .1)))
 
 returns-2 : tie.Need-returns-2
 returns-2 c =
     let u = c .before .before .before in
-    let k = u .before in
-    let v = k .before .before .before in
-    let a = v .before .before .args in
-    let d : place.At (k .before .q .given .0 .0) ≡ v .walk .result = cc in
-    let e : place.Refused (c .before .x2 .given .0 .0) ≡ u .one-stream .result = cc in
+    let k = u .before .before in
+    let a = start k .args in
     sym
-    (nth-no (a .n) (a .limit) (a .f .now) (a .p) (sym (ap placeSays d ∙ v .walk .ensures)) (sym (ap placeSays e ∙ u .one-stream .ensures)))
+    (nth-no (a .n) (a .limit) (a .f .now) (a .p) (passed k) (place-told (u .one-stream .ensures) (c .before .x2 .given .1)))
 
 returns-3 : tie.Need-returns-3
 returns-3 c =
-    let u = c .before .before .before in
-    let k = u .before in
-    let v = k .before .before .before in
-    let a = v .before .before .args in
-    let d : place.At (k .before .q .given .0 .0) ≡ v .walk .result = cc in
-    let e : place.At (c .before .e .given .0 .0) ≡ u .one-stream .result = cc in
-    let g = sym (ap placeSays e ∙ u .one-stream .ensures) in
-    ap accepted (part-is (a .f .now) (k .before .q .given .0 .0) (one-end (a .limit) (a .f .now) (k .before .q .given .0 .0) g))
-    ∙ sym (nth-yes (a .n) (a .limit) (a .f .now) (a .p) (sym (ap placeSays d ∙ v .walk .ensures)) g)
+    let l = c .before in
+    let k = at-q l in
+    let a = start k .args in
+    nth-part (a .n) (a .limit) (a .f .now) (a .p) (passed k) (one-passed l)
 
 pub nth-stream-spec : {M : Type 1} → statement M
 nth-stream-spec =
@@ -90,8 +71,8 @@ nth-stream-spec =
     one-stream-requires
     (λ c. search needs)
     (λ c. search needs)
-    add-t13
-    add-t14
+    fits-behind
+    fits-behind
     sub-t15
     returns
     returns-2

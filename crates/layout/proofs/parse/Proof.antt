@@ -1,117 +1,123 @@
 -- `layout::parse`: the header's questions, then the two walks.
 use borrow.Author.Needs.{needs}
 use mathlib.Core.Path.{_≡_, sym, _∙_, ap}
-use native.Mathlib.Omega.{arith}
-use Rattle.ask.specs.Ask.{accepted}
+use mathlib.Core.List.{List}
+use Prim.Native.Nat.{ℕ}
+use Rattle.ask.specs.Ask.{Answer, accepted, firstNo}
+use Rattle.layout.specs.Geometry.{sliceCount, maxAcLen}
+use Rattle.layout.specs.Frame.{Legal, headerQuestions, streams, dcStreams}
 use Rattle.layout.specs.Views.{placeSays}
-use Rattle.layout.specs.declared.Place.the-variants as place
-use Rattle.layout.proofs.Laws.{format-small, legal, frame-no, dc-no, dc-only, ac-no, ac-too, dc-walk, ac-walk}
+use Rattle.layout.proofs.Laws.{header-fits, begins-inside, none-is, place-told, legal, frame-no, dc-no, dc-only, ac-no, ac-too, dc-walk, ac-walk}
 use Rattle.layout.proofs.parse.Statement.{statement}
 use Rattle.layout.proofs.parse.Tie as tie
 
+-- the arguments
+abbrev w : tie.Start → ℕ
+w s = s .args .width
+
+abbrev h : tie.Start → ℕ
+h s = s .args .height
+
+abbrev f : tie.Start → List ℕ
+f s = s .args .frame .now
+
+-- behind the questions: every answer is yes
+abbrev start : tie.Else1 → tie.Start
+start n = n .before .before .before
+
+all-yes : (n : tie.Else1) → firstNo (headerQuestions (w (start n)) (h (start n)) (f (start n))) ≡ 0
+all-yes n = none-is (n .before .header-number .ensures) (n .if1 .left)
+
+is-legal : (n : tie.Else1) → Legal (w (start n)) (h (start n)) (f (start n))
+is-legal n = legal (w (start n)) (h (start n)) (f (start n)) (all-yes n)
+
+-- the first walk is over the DC streams
+abbrev asked : tie.After-walk → tie.Else1
+asked v = v .before .before .before .before
+
+dc-is : (v : tie.After-walk) → placeSays (v .walk .result) ≡ dcStreams (w (start (asked v))) (h (start (asked v))) (f (start (asked v)))
+dc-is v =
+    let s = start (asked v) in
+    dc-walk (w s) (h s) (f s) (v .before .before .before .slice-count .ensures) (v .before .max-dc-len .ensures) (v .before .before .format-at .ensures) (v .walk .ensures)
+
+-- which end at q
+abbrev behind : tie.After-q → tie.Else1
+behind k = asked (k .before .before)
+
+dc-there : (k : tie.After-q) → dcStreams (w (start (behind k))) (h (start (behind k))) (f (start (behind k))) ≡ accepted (k .q .given .0 .0)
+dc-there k = place-told (dc-is (k .before .before)) (k .q .given .1)
+
+-- the second walk goes on from q, over the AC streams
+abbrev at-q : tie.After-walk2 → tie.After-q
+at-q u = u .before .before .before .before
+
+ac-is : (u : tie.After-walk2) → placeSays (u .walk2 .result) ≡ streams (sliceCount (h (start (behind (at-q u))))) (maxAcLen (w (start (behind (at-q u))))) (f (start (behind (at-q u)))) (at-q u .q .given .0 .0)
+ac-is u =
+    let k = at-q u in
+    let s = start (behind k) in
+    ac-walk (w s) (h s) (f s) (k .q .given .0 .0) (k .before .before .before .before .before .slice-count .ensures) (u .before .max-ac-len .ensures) (u .walk2 .ensures)
+
 returns : tie.Need-returns
 returns c =
-    let a = c .before .before .before .args in
-    sym (frame-no (a .width) (a .height) (a .frame .now) (c .before .header-number .ensures) (c .if1 .taken))
+    let s = c .before .before .before in
+    sym (frame-no (w s) (h s) (f s) (c .before .header-number .ensures) (c .if1 .taken))
 
 slice-count-requires : tie.Need-slice-count-requires
-slice-count-requires c κs =
-    let a = c .before .before .before .args in
-    legal (a .width) (a .height) (a .frame .now) (omega arith) .high
+slice-count-requires c κs = is-legal c .high
 
 format-at-requires : tie.Need-format-at-requires
-format-at-requires c κs =
-    let a = c .before .before .before .before .args in
-    legal (a .width) (a .height) (a .frame .now) (omega arith) .five
+format-at-requires c κs = is-legal (c .before) .five
 
 max-dc-len-requires : tie.Need-max-dc-len-requires
-max-dc-len-requires c κs =
-    let a = c .before .before .before .before .before .args in
-    legal (a .width) (a .height) (a .frame .now) (omega arith) .wide
+max-dc-len-requires c κs = is-legal (c .before .before) .wide
 
 add-walk : tie.Need-add-walk
-add-walk c = omega (arith, format-small (c .before .before .before .before .before .before .args .frame .now))
+add-walk c = header-fits (f (start (c .before .before .before))) (c .before .format-at .ensures)
 
 walk-requires : tie.Need-walk-requires
 walk-requires c κs =
-    let a = c .before .before .before .before .before .before .args in
-    omega (arith, format-small (a .frame .now), legal (a .width) (a .height) (a .frame .now) (omega arith) .five)
+    let n = c .before .before .before in
+    begins-inside (f (start n)) (c .before .format-at .ensures) (is-legal n .five)
 
 max-ac-len-requires : tie.Need-max-ac-len-requires
-max-ac-len-requires c κs =
-    let n = c .before .before .before .before .before .before .before .before in
-    let a = n .before .before .before .args in
-    legal (a .width) (a .height) (a .frame .now) (omega (arith, n .if1 .left, n .before .header-number .ensures)) .wide
+max-ac-len-requires c κs = is-legal (behind (c .before .before)) .wide
 
 header-of-requires : tie.Need-header-of-requires
-header-of-requires c κs =
-    let n = c .before .before .before .before .before .before .before .before .before .before .before .before in
-    let a = n .before .before .before .args in
-    legal (a .width) (a .height) (a .frame .now) (omega (arith, n .if1 .left, n .before .header-number .ensures)) .five
+header-of-requires c κs = is-legal (behind (at-q (c .before .before))) .five
 
 header-of-requires-2 : tie.Need-header-of-requires-2
-header-of-requires-2 c κs =
-    let n = c .before .before .before .before .before .before .before .before in
-    let a = n .before .before .before .args in
-    legal (a .width) (a .height) (a .frame .now) (omega (arith, n .if1 .left, n .before .header-number .ensures)) .five
+header-of-requires-2 c κs = is-legal (behind (c .before .before)) .five
 
 returns-2 : tie.Need-returns-2
 returns-2 c =
     let v = c .before .before .before in
-    let n = v .before .before .before .before in
-    let a = n .before .before .before .args in
-    let e : place.Refused (c .before .x .given .0 .0) ≡ v .walk .result = cc in
-    sym
-    (dc-no (a .width) (a .height) (a .frame .now) (omega (arith, n .if1 .left, n .before .header-number .ensures))
-    (dc-walk (a .width) (a .height) (a .frame .now) (v .before .before .before .slice-count .ensures) (v .before .max-dc-len .ensures) (v .before .before .format-at .ensures)
-    (sym (ap placeSays e ∙ v .walk .ensures))))
+    let s = start (asked v) in
+    sym (dc-no (w s) (h s) (f s) (all-yes (asked v)) (place-told (dc-is v) (c .before .x .given .1)))
 
 returns-3 : tie.Need-returns-3
 returns-3 c =
     let u = c .before .before .before in
-    let t = u .before .before in
-    let v = t .before .before .before .before in
-    let n = v .before .before .before .before in
-    let a = n .before .before .before .args in
-    let d : place.At (t .before .before .q .given .0 .0) ≡ v .walk .result = cc in
-    let e : place.Refused (c .before .x2 .given .0 .0) ≡ u .walk2 .result = cc in
+    let n = behind (at-q u) in
+    let s = start n in
     sym
-    (ac-no (a .width) (a .height) (a .frame .now) (omega (arith, n .if1 .left, n .before .header-number .ensures))
-    (dc-walk (a .width) (a .height) (a .frame .now) (v .before .before .before .slice-count .ensures) (v .before .max-dc-len .ensures) (v .before .before .format-at .ensures)
-    (sym (ap placeSays d ∙ v .walk .ensures)))
-    (t .if2 .taken)
-    (ac-walk (a .width) (a .height) (a .frame .now) (t .before .before .q .given .0 .0) (v .before .before .before .slice-count .ensures) (u .before .max-ac-len .ensures) (sym (ap placeSays e ∙ u .walk2 .ensures))))
+    (ac-no (w s) (h s) (f s) (all-yes n) (dc-there (at-q u)) (u .before .before .if2 .taken) (place-told (ac-is u) (c .before .x2 .given .1)))
 
 returns-4 : tie.Need-returns-4
 returns-4 c =
     let u = c .before .before .before in
-    let t = u .before .before in
-    let v = t .before .before .before .before in
-    let n = v .before .before .before .before in
-    let a = n .before .before .before .args in
-    let d : place.At (t .before .before .q .given .0 .0) ≡ v .walk .result = cc in
-    let e : place.At (c .before .enum-told .given .0 .0) ≡ u .walk2 .result = cc in
+    let n = behind (at-q u) in
+    let s = start n in
     ap accepted (c .header-of .ensures)
     ∙ sym
-    (ac-too (a .width) (a .height) (a .frame .now) (omega (arith, n .if1 .left, n .before .header-number .ensures))
-    (dc-walk (a .width) (a .height) (a .frame .now) (v .before .before .before .slice-count .ensures) (v .before .max-dc-len .ensures) (v .before .before .format-at .ensures)
-    (sym (ap placeSays d ∙ v .walk .ensures)))
-    (t .if2 .taken)
-    (ac-walk (a .width) (a .height) (a .frame .now) (t .before .before .q .given .0 .0) (v .before .before .before .slice-count .ensures) (u .before .max-ac-len .ensures) (sym (ap placeSays e ∙ u .walk2 .ensures))))
+    (ac-too (w s) (h s) (f s) (all-yes n) (dc-there (at-q u)) (u .before .before .if2 .taken) (place-told (ac-is u) (c .before .enum-told .given .1)))
 
 returns-5 : tie.Need-returns-5
 returns-5 c =
-    let t = c .before in
-    let v = t .before .before .before .before in
-    let n = v .before .before .before .before in
-    let a = n .before .before .before .args in
-    let d : place.At (t .before .before .q .given .0 .0) ≡ v .walk .result = cc in
+    let k = c .before .before .before in
+    let n = behind k in
+    let s = start n in
     ap accepted (c .header-of2 .ensures)
-    ∙ sym
-    (dc-only (a .width) (a .height) (a .frame .now) (omega (arith, n .if1 .left, n .before .header-number .ensures))
-    (dc-walk (a .width) (a .height) (a .frame .now) (v .before .before .before .slice-count .ensures) (v .before .max-dc-len .ensures) (v .before .before .format-at .ensures)
-    (sym (ap placeSays d ∙ v .walk .ensures)))
-    (t .if2 .left))
+    ∙ sym (dc-only (w s) (h s) (f s) (all-yes n) (dc-there k) (c .before .if2 .left))
 
 pub parse-spec : {M : Type 1} → statement M
 parse-spec =

@@ -1,14 +1,27 @@
 -- `layout::stream`.
 use borrow.Author.Needs.{needs}
-use mathlib.Core.Path.{_≡_, refl, sym, _∙_, ap}
+use mathlib.Core.Path.{_≡_, refl, ap}
 use native.Mathlib.Omega.{arith}
-use Prim.Native.Nat.{_+_, _-_}
-use lib.ListN.{take, drop}
-use Rattle.layout.specs.Views.{viewSays, isAc}
-use Rattle.layout.specs.declared.ViewAnswer.the-variants as view
-use Rattle.layout.proofs.Laws.{view-inside, part-size}
+use Prim.Native.Nat.{_+_, _≤_}
+use lib.ListN.{length, take, drop}
+use Rattle.ask.specs.Ask.{accepted}
+use Rattle.layout.specs.Frame.{viewOf}
+use Rattle.layout.specs.Views.{isAc}
+use Rattle.layout.proofs.Laws.{view-told, view-inside, part-size}
 use Rattle.layout.proofs.stream.Statement.{statement}
 use Rattle.layout.proofs.stream.Tie as tie
+
+-- the view that was found, and what is told of it
+abbrev start : tie.After-view-at → tie.Start
+start v = v .before .before
+
+found : (k : tie.After-p) → viewOf (start (k .before .before) .args .width) (start (k .before .before) .args .height) (start (k .before .before) .args .frame .now) (isAc (start (k .before .before) .args .kind)) (start (k .before .before) .args .slice) ≡ accepted (record { offset = k .p .given .0 .0; size = k .p .given .0 .1 .0 })
+found k = view-told (k .before .before .view-at .ensures) (k .p .given .1)
+
+inside : (k : tie.After-p) → k .p .given .0 .0 + k .p .given .0 .1 .0 ≤ length (start (k .before .before) .args .frame .now)
+inside k =
+    let a = start (k .before .before) .args in
+    view-inside (a .width) (a .height) (a .frame .now) (isAc (a .kind)) (a .slice) (found k)
 
 view-at-requires : tie.Need-view-at-requires
 view-at-requires c κs = search needs
@@ -29,11 +42,7 @@ enum-known-p : tie.Need-enum-known-p
 enum-known-p c = search needs
 
 add-e : tie.Need-add-e
-add-e c =
-    let v = c .before .before .before in
-    let a = v .before .before .args in
-    let e : view.Part (c .before .p .given .0 .0) (c .before .p .given .0 .1 .0) ≡ v .view-at .result = cc in
-    omega (arith, view-inside (a .width) (a .height) (a .frame .now) (isAc (a .kind)) (a .slice) (sym (ap viewSays e ∙ v .view-at .ensures)))
+add-e c = omega (arith, inside (c .before))
 
 sub-result-2 : tie.Need-sub-result-2
 sub-result-2 c = search needs
@@ -42,27 +51,18 @@ part-result-start-2 : tie.Need-part-result-start-2
 part-result-start-2 c = search needs
 
 part-result-end-2 : tie.Need-part-result-end-2
-part-result-end-2 c =
-    let v = c .before .before .before in
-    let a = v .before .before .args in
-    let e : view.Part (c .before .p .given .0 .0) (c .before .p .given .0 .1 .0) ≡ v .view-at .result = cc in
-    omega (arith, view-inside (a .width) (a .height) (a .frame .now) (isAc (a .kind)) (a .slice) (sym (ap viewSays e ∙ v .view-at .ensures)))
+part-result-end-2 c = inside (c .before)
 
 returns : tie.Need-returns
 returns c =
     let k = c .before .before in
-    let v = k .before .before in
-    let e : view.Refused (k .x .given .0 .0) ≡ v .view-at .result = cc in
-    let g = sym (ap viewSays e ∙ v .view-at .ensures) in
-    rw g (refl, refl)
+    rw (view-told (k .before .before .view-at .ensures) (k .x .given .1)) (refl, refl)
 
 returns-2 : tie.Need-returns-2
 returns-2 c =
     let k = c .before .before in
-    let v = k .before .before in
-    let e : view.Part (k .p .given .0 .0) (k .p .given .0 .1 .0) ≡ v .view-at .result = cc in
-    let g = sym (ap viewSays e ∙ v .view-at .ensures) in
-    rw g (ap (λ n. take n (drop (k .p .given .0 .0) (v .before .before .args .frame .now))) (part-size (k .p .given .0 .0) (k .p .given .0 .1 .0)), refl)
+    rw (found k)
+    (ap (λ n. take n (drop (k .p .given .0 .0) (start (k .before .before) .args .frame .now))) (part-size (k .p .given .0 .0) (k .p .given .0 .1 .0)), refl)
 
 pub stream-spec : {M : Type 1} → statement M
 stream-spec =

@@ -1,93 +1,85 @@
 -- `layout::view_at`.
 use borrow.Author.Needs.{needs}
-use mathlib.Core.Path.{_≡_, refl, sym, _∙_, ap}
-use mathlib.Core.Bool.{true, false}
-use native.Mathlib.Omega.{arith}
-use Prim.Native.Nat.{ℕ, _+_, _-_, _<_, _≤_}
-use lib.ListN.{length}
-use Rattle.ask.specs.Ask.{accepted, refused}
-use Rattle.layout.specs.Views.{frameSays, headerSays}
-use Rattle.layout.specs.declared.FrameAnswer.the-variants as frame
-use Rattle.layout.specs.declared.Kind.the-variants as kind
-use Rattle.layout.proofs.Laws.{frame-legal, view-no, view-beyond, view-unwanted, view-yes}
+use mathlib.Core.Path.{_≡_, sym, _∙_}
+use mathlib.Core.List.{List}
+use Prim.Native.Nat.{ℕ, _<_}
+use Rattle.ask.specs.Ask.{accepted}
+use Rattle.layout.specs.Geometry.{sliceCount}
+use Rattle.layout.specs.Frame.{Legal, parseOf}
+use Rattle.layout.specs.Views.{headerSays}
+use Rattle.layout.proofs.Laws.{frame-told, frame-legal, below-count, above-count, view-no, view-beyond, dc-wanted, ac-wanted, ac-missing}
 use Rattle.layout.proofs.view_at.Statement.{statement}
 use Rattle.layout.proofs.view_at.Tie as tie
 
+-- the arguments
+abbrev w : tie.Start → ℕ
+w s = s .args .width
+
+abbrev h : tie.Start → ℕ
+h s = s .args .height
+
+abbrev f : tie.Start → List ℕ
+f s = s .args .frame .now
+
+-- the frame is accepted
+abbrev start : tie.After-h → tie.Start
+start k = k .before .before .before .before
+
+parsed : (k : tie.After-h) → parseOf (w (start k)) (h (start k)) (f (start k)) ≡ accepted (headerSays (k .h .given .0 .0))
+parsed k = frame-told (k .before .before .parse .ensures) (k .h .given .1)
+
+is-legal : (k : tie.After-h) → Legal (w (start k)) (h (start k)) (f (start k))
+is-legal k = frame-legal (w (start k)) (h (start k)) (f (start k)) (parsed k)
+
+-- and so the slice is one of its
+abbrev counted : tie.Then1 → tie.After-h
+counted t = t .before .before .before
+
+within : (t : tie.Then1) → start (counted t) .args .slice < sliceCount (h (start (counted t)))
+within t = below-count (t .before .slice-count .ensures) (t .if1 .taken)
+
 slice-count-requires : tie.Need-slice-count-requires
-slice-count-requires c κs =
-    let v = c .before .before .before in
-    let a = v .before .before .args in
-    let e : frame.Frame (c .before .h .given .0 .0) ≡ v .parse .result = cc in
-    frame-legal (a .width) (a .height) (a .frame .now) (sym (ap frameSays e ∙ v .parse .ensures)) .high
+slice-count-requires c κs = is-legal (c .before) .high
 
 dc-view-requires : tie.Need-dc-view-requires
-dc-view-requires c κs =
-    let t = c .before .before in
-    let k = t .before .before in
-    let v = k .before .before .before in
-    let a = v .before .before .args in
-    let e : frame.Frame (k .before .h .given .0 .0) ≡ v .parse .result = cc in
-    frame-legal (a .width) (a .height) (a .frame .now) (sym (ap frameSays e ∙ v .parse .ensures))
+dc-view-requires c κs = is-legal (counted (c .before .before))
 
 ac-view-requires : tie.Need-ac-view-requires
-ac-view-requires c κs =
-    let t = c .before .before .before in
-    let k = t .before .before in
-    let v = k .before .before .before in
-    let a = v .before .before .args in
-    let e : frame.Frame (k .before .h .given .0 .0) ≡ v .parse .result = cc in
-    frame-legal (a .width) (a .height) (a .frame .now) (sym (ap frameSays e ∙ v .parse .ensures))
+ac-view-requires c κs = is-legal (counted (c .before .before .before))
 
 returns : tie.Need-returns
 returns c =
     let v = c .before .before .before in
-    let a = v .before .before .args in
-    let e : frame.Refused (c .before .x .given .0 .0) ≡ v .parse .result = cc in
-    sym (view-no (a .width) (a .height) (a .frame .now) _ (a .slice) (sym (ap frameSays e ∙ v .parse .ensures)))
+    let s = v .before .before in
+    sym (view-no (w s) (h s) (f s) _ (s .args .slice) (frame-told (v .parse .ensures) (c .before .x .given .1)))
 
 returns-2 : tie.Need-returns-2
 returns-2 c =
     let t = c .before .before .before in
-    let k = t .before .before in
-    let v = k .before .before .before in
-    let a = v .before .before .args in
-    let e : frame.Frame (k .before .h .given .0 .0) ≡ v .parse .result = cc in
-    let d : kind.Dc ≡ a .kind = cc in
-    rw (← d)
-    (c .dc-view .ensures
-    ∙ sym (view-yes (a .width) (a .height) (a .frame .now) false (a .slice) (sym (ap frameSays e ∙ v .parse .ensures)) (omega arith) refl))
+    let k = counted t in
+    let s = start k in
+    c .dc-view .ensures ∙ sym (dc-wanted (w s) (h s) (f s) (s .args .slice) (parsed k) (within t) (c .before .enum-told .given .1))
 
 returns-3 : tie.Need-returns-3
 returns-3 c =
     let t = c .before .before .before .before in
-    let k = t .before .before in
-    let v = k .before .before .before in
-    let a = v .before .before .args in
-    let e : frame.Frame (k .before .h .given .0 .0) ≡ v .parse .result = cc in
-    let d : kind.Ac ≡ a .kind = cc in
-    rw (← d)
-    (c .ac-view .ensures
-    ∙ sym (view-yes (a .width) (a .height) (a .frame .now) true (a .slice) (sym (ap frameSays e ∙ v .parse .ensures)) (omega arith) (c .before .if2 .taken)))
+    let k = counted t in
+    let s = start k in
+    c .ac-view .ensures
+    ∙ sym (ac-wanted (w s) (h s) (f s) (s .args .slice) (parsed k) (within t) (c .before .before .enum-told2 .given .1) (c .before .if2 .taken))
 
 returns-4 : tie.Need-returns-4
 returns-4 c =
     let t = c .before .before .before in
-    let k = t .before .before in
-    let v = k .before .before .before in
-    let a = v .before .before .args in
-    let e : frame.Frame (k .before .h .given .0 .0) ≡ v .parse .result = cc in
-    let d : kind.Ac ≡ a .kind = cc in
-    rw (← d)
-    (sym (view-unwanted (a .width) (a .height) (a .frame .now) true (a .slice) (sym (ap frameSays e ∙ v .parse .ensures)) (omega arith) (c .if2 .left)))
+    let k = counted t in
+    let s = start k in
+    sym (ac-missing (w s) (h s) (f s) (s .args .slice) (parsed k) (within t) (c .before .enum-told2 .given .1) (c .if2 .left))
 
 returns-5 : tie.Need-returns-5
 returns-5 c =
-    let t = c in
-    let k = t .before .before in
-    let v = k .before .before .before in
-    let a = v .before .before .args in
-    let e : frame.Frame (k .before .h .given .0 .0) ≡ v .parse .result = cc in
-    sym (view-beyond (a .width) (a .height) (a .frame .now) _ (a .slice) (sym (ap frameSays e ∙ v .parse .ensures)) (omega arith))
+    let k = c .before .before .before in
+    let s = start k in
+    sym (view-beyond (w s) (h s) (f s) _ (s .args .slice) (parsed k) (above-count (c .before .slice-count .ensures) (c .if1 .left)))
 
 pub view-at-spec : {M : Type 1} → statement M
 view-at-spec =
