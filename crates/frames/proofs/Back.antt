@@ -8,8 +8,10 @@ use native.Mathlib.Omega.{arith}
 use lib.ListN.{length, getD, take, drop, length-append}
 use lib.Seq.{getD-append-add, drop-append-add, take-append-seam}
 use Rattle.ask.specs.Ask.{Answer, refused, accepted, andThen}
-use Rattle.layout.specs.Frame.{byteAt, lengthAt, oneStream, streams, View, partAt, nthStream}
-use Rattle.layout.proofs.Laws.{one-whole, turn, nth-yes}
+use Rattle.streams.specs.Streams.{byteAt, lengthAt, oneStream, streams}
+use Rattle.parser.specs.Frame.{View, partAt, nthStream}
+use Rattle.streams.proofs.Laws.{one-whole, turn}
+use Rattle.parser.proofs.Laws.{nth-yes}
 use Rattle.builder.specs.Build.{lengthWord, streamBytes, allStreams}
 use Rattle.frames.specs.Whole.{Within}
 use Rattle.frames.proofs.Put.{stream-length}

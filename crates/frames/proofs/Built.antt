@@ -8,7 +8,7 @@ use lib.ListN.{length, take, drop, length-append}
 use lib.Seq.{length-take-le, take-append-seam, drop-at}
 use Rattle.ask.specs.Ask.{Answer, refused, accepted, andThen}
 use Rattle.bits.specs.Lay.{lay}
-use Rattle.layout.specs.Frame.{viewOf}
+use Rattle.parser.specs.Frame.{viewOf}
 use Rattle.builder.specs.Build.{Build, Built, headerLength, headerBytes, countByte, started, allStreams, writeOf}
 use Rattle.frames.specs.Whole.{buildOf, Complete, ofKind, streamAt, bytesOf, frameIn}
 use Rattle.frames.proofs.Put.{header-length, afterAll, all-at, builds, builds-dc}

@@ -6,7 +6,7 @@ use Prim.Native.Nat.{ℕ, zero, suc, _-_, _≤_}
 use lib.ListN.{length, take, drop}
 use Rattle.ask.specs.Ask.{Answer, refused, accepted, andThen}
 use Rattle.layout.specs.Geometry.{sizeOk, sliceCount, maxDcLen, maxAcLen}
-use Rattle.layout.specs.Frame.{View}
+use Rattle.parser.specs.Frame.{View}
 use Rattle.builder.specs.Build.{Build, Built, headerOf, streamOf}
 
 -- streams of one kind, those of the slices k, k + 1, .. in turn

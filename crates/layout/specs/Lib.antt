@@ -1,3 +1,2 @@
 pub mod Geometry
-pub mod Frame
 pub mod Views

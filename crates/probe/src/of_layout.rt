@@ -1,10 +1,10 @@
-// Frame geometry and reading a frame (crate layout).
-use layout::FrameAnswer;
+// Frame geometry and reading a frame (crates layout, parser).
 use layout::Kind;
 use layout::Layout;
 use layout::LayoutAnswer;
 use layout::RowAnswer;
-use layout::ViewAnswer;
+use parser::FrameAnswer;
+use parser::ViewAnswer;
 
 fn flag(b: bool) -> usize {
     if b { 1 } else { 0 }
@@ -75,7 +75,7 @@ pub extern "C" fn probe_layout_parse(
     frame: &[u8],
     out: &mut [usize],
 ) -> u32 {
-    match layout::parse(width, height, frame) {
+    match parser::parse(width, height, frame) {
         FrameAnswer::Refused(x) => x,
         FrameAnswer::Frame(h) => {
             if 5 <= out.len() {
@@ -100,7 +100,7 @@ pub extern "C" fn probe_layout_view_at(
     slice: usize,
     out: &mut [usize],
 ) -> u32 {
-    match layout::view_at(width, height, frame, kind_of(ac), slice) {
+    match parser::view_at(width, height, frame, kind_of(ac), slice) {
         ViewAnswer::Refused(x) => x,
         ViewAnswer::Part(p, n) => {
             if 2 <= out.len() {
@@ -123,7 +123,7 @@ pub extern "C" fn probe_layout_stream(
     out: &mut [u8],
 ) -> usize {
     let mut number = 0u32;
-    let s = layout::stream(width, height, frame, kind_of(ac), slice, &mut number);
+    let s = parser::stream(width, height, frame, kind_of(ac), slice, &mut number);
     if s.len() == 0 {
         return 0;
     }

@@ -1,8 +1,8 @@
 // Replays the Rust's answers to small frames, whole, cut and changed. A record of 148 bytes (oracle/ANSWERS.md): width,
 // height, the frame's length, a stream that is asked for, the header and the stream's place as the Rust answered them, the frame.
-use layout::FrameAnswer;
 use layout::Kind;
-use layout::ViewAnswer;
+use parser::FrameAnswer;
+use parser::ViewAnswer;
 use replay::count;
 use replay::refusal;
 use replay::size;
@@ -45,7 +45,7 @@ fn same_header(
 
 // The header, or its refusal.
 fn header(b: &[u8; 148], width: usize, height: usize, frame: &[u8]) -> bool {
-    match layout::parse(width, height, frame) {
+    match parser::parse(width, height, frame) {
         FrameAnswer::Refused(x) => x == refusal(b[7]),
         FrameAnswer::Frame(h) => {
             same_header(b, h.interlaced, h.quality, h.dc_shift, h.header_len, h.ac)
@@ -67,7 +67,7 @@ fn same_place(b: &[u8; 148], at: usize, len: usize) -> bool {
 // The place of a stream, or its refusal.
 fn place(b: &[u8; 148], width: usize, height: usize, frame: &[u8]) -> bool {
     let kind = kind_of(b[5] == 1);
-    match layout::view_at(width, height, frame, kind, wide(b[6])) {
+    match parser::view_at(width, height, frame, kind, wide(b[6])) {
         ViewAnswer::Refused(x) => x == refusal(b[13]),
         ViewAnswer::Part(p, n) => same_place(b, p, n),
     }

@@ -6,16 +6,17 @@ use builder::Builder;
 use builder::HeaderAnswer;
 use builder::Shift;
 use builder::StreamAnswer;
-use layout::FrameAnswer;
 use layout::Kind;
 use layout::Layout;
 use layout::LayoutAnswer;
 use layout::RowAnswer;
-use layout::ViewAnswer;
+use parser::FrameAnswer;
+use parser::ViewAnswer;
 ghost use mathlib.Core.Path.{_≡_};
 ghost use Rattle.ask.specs.Ask.{numberIn};
 ghost use Rattle.layout.specs.Geometry.{Geometry, layoutOf, interlaceCapable, imageRowOf, previewWidth, previewHeight};
-ghost use Rattle.layout.specs.Frame.{FrameRead, parseOf, View, viewOf};
+ghost use Rattle.header.specs.Header.{FrameRead};
+ghost use Rattle.parser.specs.Frame.{parseOf, View, viewOf};
 ghost use Rattle.layout.specs.Views.{isAc};
 ghost use Rattle.tables.specs.Quality.{qualityPreset};
 ghost use Rattle.builder.specs.Build.{Built, headerOf, streamOf};
@@ -125,7 +126,7 @@ pub extern "C" fn vmx_parse(
 ) -> u32
     ensures { λ r. ⌜ (r ≡ numberIn (parseOf width height (now (frame .entry)))) × (now (interlaced .exit) ≡ left (parseOf width height (now (frame .entry))) (now (interlaced .entry)) (λ (f : FrameRead). flagOf (f .interlaced))) × (now (quality .exit) ≡ left (parseOf width height (now (frame .entry))) (now (quality .entry)) (λ (f : FrameRead). f .quality)) × (now («dc_shift» .exit) ≡ left (parseOf width height (now (frame .entry))) (now («dc_shift» .entry)) (λ (f : FrameRead). f .dcShift)) × (now («header_len» .exit) ≡ left (parseOf width height (now (frame .entry))) (now («header_len» .entry)) (λ (f : FrameRead). f .headerLen)) × (now (ac .exit) ≡ left (parseOf width height (now (frame .entry))) (now (ac .entry)) (λ (f : FrameRead). flagOf (f .acThere))) ⌝ }
 {
-    match layout::parse(width, height, frame) {
+    match parser::parse(width, height, frame) {
         FrameAnswer::Refused(x) => x,
         FrameAnswer::Frame(h) => {
             *interlaced = flag(h.interlaced);
@@ -151,7 +152,7 @@ pub extern "C" fn vmx_stream(
 ) -> u32
     ensures { λ r. ⌜ (r ≡ numberIn (viewOf width height (now (frame .entry)) (isOn ac) slice)) × (now (offset .exit) ≡ left (viewOf width height (now (frame .entry)) (isOn ac) slice) 0 (λ (v : View). v .offset)) × (now (len .exit) ≡ left (viewOf width height (now (frame .entry)) (isOn ac) slice) 0 (λ (v : View). v .size)) ⌝ }
 {
-    match layout::view_at(width, height, frame, kind_of(ac), slice) {
+    match parser::view_at(width, height, frame, kind_of(ac), slice) {
         ViewAnswer::Refused(x) => {
             *offset = 0;
             *len = 0;

@@ -1,4 +1,4 @@
-//! Crate layout, by crates/probe/src/of_layout.rt.
+//! Crates layout and parser, by crates/probe/src/of_layout.rt.
 
 extern "C" {
     fn probe_layout_new(width: usize, height: usize, out: *mut usize, n: usize) -> u32;

@@ -1,4 +1,4 @@
--- `vmx::container::kind_of`.
+-- `vmx::parser::kind_of`.
 use mathlib.Core.Path.{sym}
 use borrow.Author.Tests.{lt-ltb, le-ltb}
 use Rattle.vmx.proofs.container.kind_of.Statement.{statement}

@@ -1,4 +1,4 @@
--- `vmx::container::vmx_frame_put`.
+-- `vmx::parser::vmx_frame_put`.
 use borrow.Author.Needs.{needs}
 use mathlib.Core.Path.{_≡_, refl, sym, _∙_, ap}
 use mathlib.Core.Bool.{Bool}

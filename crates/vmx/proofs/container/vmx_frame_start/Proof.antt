@@ -1,4 +1,4 @@
--- `vmx::container::vmx_frame_start`.
+-- `vmx::parser::vmx_frame_start`.
 use borrow.Author.Needs.{needs}
 use mathlib.Core.Path.{_≡_, refl}
 use Rattle.builder.specs.declared.HeaderAnswer.the-variants as header

@@ -1,4 +1,4 @@
--- `vmx::container::vmx_image_row`.
+-- `vmx::parser::vmx_image_row`.
 use borrow.Author.Needs.{needs}
 use mathlib.Core.Path.{_≡_, refl, sym, _∙_, ap}
 use Rattle.layout.specs.Views.{rowSays}

@@ -1,4 +1,4 @@
--- `vmx::container::vmx_interlace_capable`.
+-- `vmx::parser::vmx_interlace_capable`.
 use borrow.Author.Needs.{needs}
 use mathlib.Core.Path.{_∙_, ap}
 use Rattle.vmx.specs.Outs.{flagOf}

@@ -1,4 +1,4 @@
--- `vmx::container::vmx_layout`.
+-- `vmx::parser::vmx_layout`.
 use borrow.Author.Needs.{needs}
 use mathlib.Core.Path.{_≡_, refl, sym, _∙_, ap}
 use Rattle.layout.specs.Views.{layoutSays}

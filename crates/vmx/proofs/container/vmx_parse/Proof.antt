@@ -1,8 +1,8 @@
--- `vmx::container::vmx_parse`.
+-- `vmx::parser::vmx_parse`.
 use borrow.Author.Needs.{needs}
 use mathlib.Core.Path.{_≡_, refl, sym, _∙_, ap}
-use Rattle.layout.specs.Views.{frameSays}
-use Rattle.layout.specs.declared.FrameAnswer.the-variants as frame
+use Rattle.parser.specs.Views.{frameSays}
+use Rattle.parser.specs.declared.FrameAnswer.the-variants as frame
 use Rattle.vmx.proofs.container.vmx_parse.Statement.{statement}
 use Rattle.vmx.proofs.container.vmx_parse.Tie as tie
 

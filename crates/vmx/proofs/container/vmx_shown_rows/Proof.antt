@@ -1,4 +1,4 @@
--- `vmx::container::vmx_shown_rows`.
+-- `vmx::parser::vmx_shown_rows`.
 use borrow.Author.Needs.{needs}
 use mathlib.Core.Path.{_≡_, refl, sym, _∙_}
 use native.Mathlib.Omega.{arith}

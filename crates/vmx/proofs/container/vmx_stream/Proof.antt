@@ -1,10 +1,10 @@
--- `vmx::container::vmx_stream`.
+-- `vmx::parser::vmx_stream`.
 use borrow.Author.Needs.{needs}
 use mathlib.Core.Path.{_≡_, refl, sym, _∙_, ap}
 use mathlib.Core.Bool.{Bool}
-use Rattle.layout.specs.Frame.{viewOf}
-use Rattle.layout.specs.Views.{viewSays}
-use Rattle.layout.specs.declared.ViewAnswer.the-variants as view
+use Rattle.parser.specs.Frame.{viewOf}
+use Rattle.parser.specs.Views.{viewSays}
+use Rattle.parser.specs.declared.ViewAnswer.the-variants as view
 use Rattle.vmx.proofs.container.vmx_stream.Statement.{statement}
 use Rattle.vmx.proofs.container.vmx_stream.Tie as tie
 
