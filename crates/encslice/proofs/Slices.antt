@@ -1,13 +1,21 @@
 -- A slice plane by plane: what the next plane asks is there, and what has been coded is the streams of the first planes.
 use mathlib.Core.Path.{_≡_}
 use mathlib.Core.List.{List, []}
-use Prim.Native.Nat.{ℕ, _≤_, _<_}
+use Prim.Native.Nat.{ℕ, suc, _≤_, _<_}
+use native.Mathlib.Omega.{arith}
 use lib.ListN.{take}
 use Rattle.slice.specs.Arguments.{Settings, Rows, Plane, planeAt, oneSlice, planesLent}
 use Rattle.planebits.specs.declared.Ends.{Ends}
 use Rattle.encplane.specs.Coding.{PlaneOk, PlaneDone}
 use Rattle.encslice.specs.SliceCoding.{PlanesOk, SliceOk, SliceDone}
 use Rattle.encslice.proofs.Laws.{SoFar, none-yet, next-ok, one-more, first-ok, all-done}
+
+-- a count between two neighbours
+pub at-most : {n : ℕ} (k : ℕ) → k < n → n ≤ suc k → n ≡ suc k
+at-most k h l = omega arith
+
+pub less-than : {n : ℕ} (k : ℕ) → k < n → n < suc (suc k) → n ≡ suc k
+less-than k h l = omega arith
 
 pub record Given : Type 0 where
   pub σ : Settings

@@ -1,12 +1,11 @@
 -- `encslice::slice10`: one call of the plane coder after the other.
 use mathlib.Core.Path.{_∙_}
 use Prim.Native.Nat.{_<_}
-use native.Mathlib.Omega.{arith}
 use borrow.Author.Needs.{needs}
 use Rattle.slice.specs.Arguments.{ten}
 use Rattle.encplane.specs.Coding.{settings}
 use Rattle.encslice.specs.SliceCoding.{rows}
-use Rattle.encslice.proofs.Slices.{Given, First, ask-0, did-0, ask-1, did-1, ask-2, did-2, ask-3, did-3, whole}
+use Rattle.encslice.proofs.Slices.{Given, First, ask-0, did-0, ask-1, did-1, ask-2, did-2, ask-3, did-3, whole, at-most}
 use Rattle.encslice.proofs.slice10.Statement.{statement}
 use Rattle.encslice.proofs.slice10.Tie as tie
 
@@ -40,13 +39,13 @@ plane-2 c = c .before .before .before .before .before .before .before .before
 
 -- a further plane was asked for
 more-1 : (c : tie.Else1) → 1 < start (c .before .before .before .before .before) .args .count
-more-1 c = omega (arith, c .if1 .left)
+more-1 c = c .if1 .left
 
 more-2 : (c : tie.Else2) → 2 < start (plane-0 (c .before .before .before .before .before)) .args .count
-more-2 c = omega (arith, c .if2 .left)
+more-2 c = c .if2 .left
 
 more-3 : (c : tie.Else3) → 3 < start (plane-0 (plane-1 (c .before .before .before .before .before))) .args .count
-more-3 c = omega (arith, c .if3 .left)
+more-3 c = c .if3 .left
 
 -- the planes coded so far
 one : (c : tie.After-plane10) → First (given (start c)) 1 (c .plane10 .result) (c .plane10 .last .1 .1 .1 .1 .1 .0) (c .plane10 .last .1 .1 .1 .1 .1 .1 .1 .0)
@@ -68,7 +67,7 @@ returns : tie.Need-returns
 returns c =
     let p = c .before .before .before .before .before in
     let s = start p in
-    whole (given s) (s .pre) 1 (omega (arith, c .if1 .taken, s .pre .one-or-more)) (one p)
+    whole (given s) (s .pre) 1 (at-most 0 (s .pre .one-or-more) (c .if1 .taken)) (one p)
 
 plane10-requires-2 : tie.Need-plane10-requires-2
 plane10-requires-2 c κs =
@@ -81,7 +80,7 @@ returns-2 : tie.Need-returns-2
 returns-2 c =
     let p = c .before .before .before .before .before in
     let s = start (plane-0 p) in
-    whole (given s) (s .pre) 2 (omega (arith, c .if2 .taken, more-1 (p .before .before .before))) (two p)
+    whole (given s) (s .pre) 2 (at-most 1 (more-1 (p .before .before .before)) (c .if2 .taken)) (two p)
 
 plane10-requires-3 : tie.Need-plane10-requires-3
 plane10-requires-3 c κs =
@@ -94,7 +93,7 @@ returns-3 : tie.Need-returns-3
 returns-3 c =
     let p = c .before .before .before .before .before in
     let s = start (plane-0 (plane-1 p)) in
-    whole (given s) (s .pre) 3 (omega (arith, c .if3 .taken, more-2 (p .before .before .before))) (three p)
+    whole (given s) (s .pre) 3 (at-most 2 (more-2 (p .before .before .before)) (c .if3 .taken)) (three p)
 
 plane10-requires-4 : tie.Need-plane10-requires-4
 plane10-requires-4 c κs =
@@ -122,7 +121,7 @@ returns-4 : tie.Need-returns-4
 returns-4 c =
     let p = c .before .before .before .before in
     let s = start (plane-0 (plane-1 (plane-2 p))) in
-    whole (given s) (s .pre) 4 (omega (arith, more-3 (p .before .before .before), s .pre .four-or-less)) (four p)
+    whole (given s) (s .pre) 4 (at-most 3 (more-3 (p .before .before .before)) (s .pre .four-or-less)) (four p)
 
 pub slice10-spec : {M : Type 1} → statement M
 slice10-spec =
