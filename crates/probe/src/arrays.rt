@@ -9,6 +9,14 @@ pub fn row(s: &[i16]) -> [i16; 8] {
     [s[0], s[1], s[2], s[3], s[4], s[5], s[6], s[7]]
 }
 
+// Eight numbers of a table.
+pub fn numbers(s: &[u16]) -> [u16; 8] {
+    if s.len() < 8 {
+        return [0u16; 8];
+    }
+    [s[0], s[1], s[2], s[3], s[4], s[5], s[6], s[7]]
+}
+
 // Four wide lanes.
 pub fn wide(s: &[i32]) -> [i32; 4] {
     if s.len() < 4 {
@@ -44,57 +52,10 @@ pub fn put_wide(out: &mut [i32], v: [i32; 4]) {
     }
 }
 
-pub fn put_bytes(out: &mut [u8], v: [u8; 8]) {
-    if 8 <= out.len() {
-        for k in 0..8 {
-            out[k] = v[k];
-        }
-    }
-}
-
 pub fn put_block(out: &mut [i16], v: [i16; 64]) {
     if 64 <= out.len() {
         for k in 0..64 {
             out[k] = v[k];
         }
     }
-}
-
-pub fn put_numbers(out: &mut [u16], v: [u16; 64]) {
-    if 64 <= out.len() {
-        for k in 0..64 {
-            out[k] = v[k];
-        }
-    }
-}
-
-pub fn put_triples(out: &mut [u16], v: [u16; 192]) {
-    if 192 <= out.len() {
-        for k in 0..192 {
-            out[k] = v[k];
-        }
-    }
-}
-
-// Copies all, where there is room; how many there are.
-pub fn copy8(s: &[u8], out: &mut [u8]) -> usize {
-    if s.len() <= out.len() {
-        let mut k = 0;
-        while k < s.len() {
-            out[k] = s[k];
-            k += 1;
-        }
-    }
-    s.len()
-}
-
-pub fn copy16(s: &[u16], out: &mut [u16]) -> usize {
-    if s.len() <= out.len() {
-        let mut k = 0;
-        while k < s.len() {
-            out[k] = s[k];
-            k += 1;
-        }
-    }
-    s.len()
 }

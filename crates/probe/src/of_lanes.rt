@@ -1,5 +1,5 @@
 // The lane operations (crate lanes).
-use crate::arrays::put_bytes;
+use crate::arrays::numbers;
 use crate::arrays::put_row;
 use crate::arrays::put_wide;
 use crate::arrays::row;
@@ -95,16 +95,15 @@ pub extern "C" fn probe_lanes_splat32(v: i32, out: &mut [i32]) {
 
 #[no_mangle]
 pub extern "C" fn probe_lanes_load_u(t: &[u16], out: &mut [i16]) {
-    if t.len() < 8 {
-        return;
-    }
-    let r = lanes::load_u([t[0], t[1], t[2], t[3], t[4], t[5], t[6], t[7]]);
+    let x = numbers(t);
+    let r = lanes::load_u(x);
     put_row(out, r);
 }
 
+// Byte k of a row's eight.
 #[no_mangle]
-pub extern "C" fn probe_lanes_packus8(a: &[i16], out: &mut [u8]) {
+pub extern "C" fn probe_lanes_packus8(a: &[i16], k: usize) -> u8 {
     let x = row(a);
     let r = lanes::packus8(x);
-    put_bytes(out, r);
+    if k < 8 { r[k] } else { 0 }
 }

@@ -1,23 +1,23 @@
-// The quantiser numbers, the scan and the presets (crate tables).
-use crate::arrays::put_numbers;
-use crate::arrays::put_triples;
+// The quantiser numbers and the scan (crate tables).
 
-// Correction, reciprocal and scale of a preset's 64 places (`encode` of QuantTables).
+// Number i of a preset's 192: the corrections, the reciprocals, the scales of its 64 places (`encode` of QuantTables).
 #[no_mangle]
-pub extern "C" fn probe_tables_encode(preset: usize, out: &mut [u16]) {
-    if preset < 25 {
-        let k = tables::encode_numbers(preset);
-        put_triples(out, k);
+pub extern "C" fn probe_tables_encode(preset: usize, i: usize) -> u16 {
+    if 24 < preset {
+        return 0;
     }
+    let k = tables::encode_numbers(preset);
+    if i < 192 { k[i] } else { 0 }
 }
 
-// The divisors of a preset (`decode` of QuantTables).
+// A preset's divisor at place i (`decode` of QuantTables).
 #[no_mangle]
-pub extern "C" fn probe_tables_decode(preset: usize, out: &mut [u16]) {
-    if preset < 25 {
-        let d = tables::decode_numbers(preset);
-        put_numbers(out, d);
+pub extern "C" fn probe_tables_decode(preset: usize, i: usize) -> u16 {
+    if 24 < preset {
+        return 0;
     }
+    let d = tables::decode_numbers(preset);
+    if i < 64 { d[i] } else { 0 }
 }
 
 // The natural place of scan place i.
@@ -25,18 +25,4 @@ pub extern "C" fn probe_tables_decode(preset: usize, out: &mut [u16]) {
 pub extern "C" fn probe_tables_zigzag(i: usize) -> u8 {
     let z = tables::zigzag_order();
     if i < 64 { z[i] } else { 255 }
-}
-
-// The quality that is in force for q.
-#[no_mangle]
-pub extern "C" fn probe_tables_quality(q: u8) -> u8 {
-    let p = tables::quality::quality_preset(q);
-    p.quality
-}
-
-// The preset of q.
-#[no_mangle]
-pub extern "C" fn probe_tables_preset(q: u8) -> usize {
-    let p = tables::quality::quality_preset(q);
-    p.index
 }

@@ -140,6 +140,21 @@ pub fn part16(s: &[u16], at: usize, n: usize) -> &[u16] {
     &s[at..e]
 }
 
+// The first n elements, to be written; none where there are fewer.
+pub fn cut(s: &mut [u8], n: usize) -> &mut [u8] {
+    if s.len() < n {
+        return &mut s[..0];
+    }
+    &mut s[0..n]
+}
+
+pub fn cut16(s: &mut [u16], n: usize) -> &mut [u16] {
+    if s.len() < n {
+        return &mut s[..0];
+    }
+    &mut s[0..n]
+}
+
 // Whether a buffer holds the stored bytes from `start` to `end`, and one byte everywhere else.
 pub fn holds_stored(s: &[u8], fill: u8, start: usize, end: usize, stored: &[u8]) -> bool {
     let mut k = 0;

@@ -6,6 +6,7 @@ use bitreader::AcCursor;
 use bitreader::Got;
 use replay::count;
 use replay::number;
+use replay::part;
 use replay::size;
 use replay::wide;
 
@@ -58,25 +59,11 @@ fn same(b: &[u8], dc: bool, run: u64, num: u64, end: usize) -> bool {
 }
 
 // The code at a bit of the record's stream.
-fn judged(b: &[u8], n: usize, at: usize, dc: bool) -> bool {
-    if b.len() < 48 {
-        return false;
-    }
-    if 28 < n {
-        return false;
-    }
-    if 60000 < at {
-        return false;
-    }
-    let e = 20 + n;
-    let g = read(&b[20..e], at, dc);
-    let c = g.c;
-    same(b, dc, g.run, g.num, c.pos)
-}
-
 fn holds(b: &[u8; 48]) -> bool {
     let dc = b[0] == 1;
-    judged(b, wide(b[1]), size(b, 2), dc)
+    let g = read(part(b, 20, wide(b[1])), size(b, 2), dc);
+    let c = g.c;
+    same(b, dc, g.run, g.num, c.pos)
 }
 
 // Reads and compares one record; false where there is none.

@@ -111,27 +111,12 @@ fn frame(b: &[u8; 1120], out: &mut [u8]) -> bool {
     }
 }
 
-fn lend(b: &[u8; 1120], out: &mut [u8]) -> bool {
-    let n = size(b, 12);
-    if out.len() < n {
-        return false;
-    }
-    frame(b, &mut out[0..n])
-}
-
 fn holds(b: &[u8; 1120]) -> bool {
     let mut out = [b[7]; 1100];
-    if lend(b, &mut out) {
-        replay::holds_stored(
-            &out,
-            b[7],
-            position(b, 16),
-            position(b, 24),
-            part(b, 128, 992),
-        )
-    } else {
-        false
-    }
+    let start = position(b, 16);
+    let end = position(b, 24);
+    let ok = frame(b, replay::cut(&mut out, size(b, 12)));
+    ok && replay::holds_stored(&out, b[7], start, end, part(b, 128, 992))
 }
 
 // Reads and compares one record; false where there is none.

@@ -94,14 +94,10 @@ fn holds(b: &[u8; 260]) -> bool {
     let add = lane(b, 2);
     let x = block(b, 4);
     let y = block(b, 132);
-    if kind == 0 {
-        same(forward(x, add, false, preset), y)
-    } else if kind == 1 {
-        same(forward(x, add, true, preset), y)
-    } else if kind == 2 {
-        same(inverse(x, add, false, preset), y)
+    if kind < 2 {
+        same(forward(x, add, kind == 1, preset), y)
     } else {
-        same(inverse(x, add, true, preset), y)
+        same(inverse(x, add, kind == 3, preset), y)
     }
 }
 

@@ -4,6 +4,7 @@ use layout::Kind;
 use parser::FrameAnswer;
 use parser::ViewAnswer;
 use replay::count;
+use replay::part;
 use replay::refusal;
 use replay::size;
 use replay::wide;
@@ -73,40 +74,11 @@ fn place(b: &[u8; 148], width: usize, height: usize, frame: &[u8]) -> bool {
     }
 }
 
-// The frame of a record, asked for its header.
-fn header_holds(b: &[u8; 148], s: &[u8], n: usize) -> bool {
-    let width = size(b, 0);
-    let height = size(b, 2);
-    if s.len() < 148 {
-        return false;
-    }
-    if 128 < n {
-        return false;
-    }
-    let e = 20 + n;
-    header(b, width, height, &s[20..e])
-}
-
-// The frame of a record, asked for a stream.
-fn place_holds(b: &[u8; 148], s: &[u8], n: usize) -> bool {
-    let width = size(b, 0);
-    let height = size(b, 2);
-    if s.len() < 148 {
-        return false;
-    }
-    if 128 < n {
-        return false;
-    }
-    let e = 20 + n;
-    place(b, width, height, &s[20..e])
-}
-
 fn holds(b: &[u8; 148]) -> bool {
-    if header_holds(b, b, wide(b[4])) {
-        place_holds(b, b, wide(b[4]))
-    } else {
-        false
-    }
+    let width = size(b, 0);
+    let height = size(b, 2);
+    let frame = part(b, 20, wide(b[4]));
+    header(b, width, height, frame) && place(b, width, height, frame)
 }
 
 // Reads and compares one record; false where there is none.

@@ -4,6 +4,7 @@ ghost use Prim.Native.Nat.{_<_};
 use encoder::CodeAnswer;
 use replay::answered;
 use replay::count;
+use replay::cut;
 use replay::number;
 use replay::part;
 use replay::part16;
@@ -45,11 +46,6 @@ fn samples10(b: &[u8; 552]) -> [u16; 512] {
 
 fn shift_of(b: &[u8]) -> u32 {
     replay::widened(number(b, 6))
-}
-
-// No record has this answer.
-fn misread() -> CodeAnswer {
-    CodeAnswer::Refused(0, 0, 0)
 }
 
 // The call on an 8-bit plane.
@@ -124,40 +120,33 @@ fn slice10(b: &[u8], rows: &[u16], dcs: &mut [u8], acs: &mut [u8]) -> CodeAnswer
     )
 }
 
-// The call that the record names.
-fn called(b: &[u8; 552], dcs: &mut [u8], acs: &mut [u8]) -> CodeAnswer {
-    let op = b[0];
-    if op == 0 {
-        let rows = samples8(b);
+// A call on 8-bit rows.
+fn eight(b: &[u8; 552], dcs: &mut [u8], acs: &mut [u8]) -> CodeAnswer {
+    let rows = samples8(b);
+    if b[0] == 0 {
         plane8(b, &rows, dcs, acs)
-    } else if op == 1 {
-        let rows = samples10(b);
-        plane10(b, &rows, dcs, acs)
-    } else if op == 2 {
-        let rows = samples8(b);
-        slice8(b, &rows, dcs, acs)
     } else {
-        let rows = samples10(b);
+        slice8(b, &rows, dcs, acs)
+    }
+}
+
+// A call on 10-bit rows.
+fn ten(b: &[u8; 552], dcs: &mut [u8], acs: &mut [u8]) -> CodeAnswer {
+    let rows = samples10(b);
+    if b[0] == 1 {
+        plane10(b, &rows, dcs, acs)
+    } else {
         slice10(b, &rows, dcs, acs)
     }
 }
 
-// Lends as much of the AC buffer as the record says.
-fn lend_ac(b: &[u8; 552], dcs: &mut [u8], acs: &mut [u8]) -> CodeAnswer {
-    let n = size(b, 12);
-    if acs.len() < n {
-        return misread();
+// The call that the record names.
+fn called(b: &[u8; 552], dcs: &mut [u8], acs: &mut [u8]) -> CodeAnswer {
+    if b[0] % 2 == 0 {
+        eight(b, dcs, acs)
+    } else {
+        ten(b, dcs, acs)
     }
-    called(b, dcs, &mut acs[0..n])
-}
-
-// Lends as much of the DC buffer as the record says.
-fn lend_dc(b: &[u8; 552], dcs: &mut [u8], acs: &mut [u8]) -> CodeAnswer {
-    let n = size(b, 10);
-    if dcs.len() < n {
-        return misread();
-    }
-    lend_ac(b, &mut dcs[0..n], acs)
 }
 
 fn same_answer(b: &[u8; 552], r: CodeAnswer) -> bool {
@@ -180,7 +169,7 @@ fn same_bytes(b: &[u8; 552], dcs: &[u8], acs: &[u8]) -> bool {
 fn holds(b: &[u8; 552]) -> bool {
     let mut dcs = [b[1]; 100];
     let mut acs = [b[1]; 1800];
-    let r = lend_dc(b, &mut dcs, &mut acs);
+    let r = called(b, cut(&mut dcs, size(b, 10)), cut(&mut acs, size(b, 12)));
     if same_answer(b, r) {
         same_bytes(b, &dcs, &acs)
     } else {

@@ -1,8 +1,11 @@
 // Replays the Rust's reading calls on small planes and slices, previews and block reports. A record of 808 bytes
 // (oracle/ANSWERS.md): the call's arguments, its answer, both streams, and what the rows hold behind the call.
+ghost use Prim.Native.Nat.{_<_};
 use decoder::ReadAnswer;
 use replay::answered;
 use replay::count;
+use replay::cut;
+use replay::cut16;
 use replay::number;
 use replay::part;
 use replay::position;
@@ -36,12 +39,8 @@ fn same_answer(b: &[u8], r: ReadAnswer) -> bool {
 
 // The call on an 8-bit plane.
 fn plane8(b: &[u8], dc: &[u8], ac: &[u8], rows: &mut [u8]) -> bool {
-    let n = size(b, 32);
-    if rows.len() < n {
-        return false;
-    }
     let r = decoder::decode_plane8(
-        &mut rows[0..n],
+        cut(rows, size(b, 32)),
         size(b, 16),
         size(b, 8),
         size(b, 4),
@@ -56,12 +55,8 @@ fn plane8(b: &[u8], dc: &[u8], ac: &[u8], rows: &mut [u8]) -> bool {
 
 // The call on a 10-bit plane.
 fn plane10(b: &[u8], dc: &[u8], ac: &[u8], rows: &mut [u16]) -> bool {
-    let n = size(b, 32);
-    if rows.len() < n {
-        return false;
-    }
     let r = decoder::decode_plane10(
-        &mut rows[0..n],
+        cut16(rows, size(b, 32)),
         size(b, 16),
         size(b, 8),
         size(b, 4),
@@ -84,30 +79,14 @@ fn slice8(
     p2: &mut [u8],
     p3: &mut [u8],
 ) -> bool {
-    let n0 = size(b, 32);
-    if p0.len() < n0 {
-        return false;
-    }
-    let n1 = size(b, 34);
-    if p1.len() < n1 {
-        return false;
-    }
-    let n2 = size(b, 36);
-    if p2.len() < n2 {
-        return false;
-    }
-    let n3 = size(b, 38);
-    if p3.len() < n3 {
-        return false;
-    }
     let r = decoder::decode_slice8(
-        &mut p0[0..n0],
+        cut(p0, size(b, 32)),
         size(b, 16),
-        &mut p1[0..n1],
+        cut(p1, size(b, 34)),
         size(b, 18),
-        &mut p2[0..n2],
+        cut(p2, size(b, 36)),
         size(b, 20),
-        &mut p3[0..n3],
+        cut(p3, size(b, 38)),
         size(b, 22),
         size(b, 8),
         size(b, 4),
@@ -130,30 +109,14 @@ fn slice10(
     p2: &mut [u16],
     p3: &mut [u16],
 ) -> bool {
-    let n0 = size(b, 32);
-    if p0.len() < n0 {
-        return false;
-    }
-    let n1 = size(b, 34);
-    if p1.len() < n1 {
-        return false;
-    }
-    let n2 = size(b, 36);
-    if p2.len() < n2 {
-        return false;
-    }
-    let n3 = size(b, 38);
-    if p3.len() < n3 {
-        return false;
-    }
     let r = decoder::decode_slice10(
-        &mut p0[0..n0],
+        cut16(p0, size(b, 32)),
         size(b, 16),
-        &mut p1[0..n1],
+        cut16(p1, size(b, 34)),
         size(b, 18),
-        &mut p2[0..n2],
+        cut16(p2, size(b, 36)),
         size(b, 20),
-        &mut p3[0..n3],
+        cut16(p3, size(b, 38)),
         size(b, 22),
         size(b, 8),
         size(b, 4),
@@ -168,22 +131,14 @@ fn slice10(
 
 // The preview, into the first two planes' rows.
 fn previewed(b: &[u8], dc: &[u8], upper: &mut [u8], lower: &mut [u8]) -> bool {
-    let m = size(b, 32);
-    let n = size(b, 34);
-    if upper.len() < m {
-        return false;
-    }
-    if lower.len() < n {
-        return false;
-    }
     let d = position(b, 40);
     let a = position(b, 48);
     let r = preview::preview(
         shift_of(b),
         place_of(b),
         size(b, 16),
-        &mut upper[0..m],
-        &mut lower[0..n],
+        cut(upper, size(b, 32)),
+        cut(lower, size(b, 34)),
         dc,
         d,
     );
@@ -195,13 +150,9 @@ fn previewed(b: &[u8], dc: &[u8], upper: &mut [u8], lower: &mut [u8]) -> bool {
 
 // The block report, into the first plane's rows.
 fn reported(b: &[u8], ac: &[u8], rows: &mut [u8]) -> bool {
-    let n = size(b, 32);
-    if rows.len() < n {
-        return false;
-    }
     let d = position(b, 40);
     let a = position(b, 48);
-    match report::block_report(size(b, 16), &mut rows[0..n], ac, a) {
+    match report::block_report(size(b, 16), cut(rows, size(b, 32)), ac, a) {
         report::PlaneEnd::Refused(x) => answered(b, x, d, a),
         report::PlaneEnd::At(e) => answered(b, 0, d, e),
     }
@@ -226,64 +177,77 @@ fn same10(b: &[u8; 808], k: usize, rows: &[u16; 280]) -> bool {
     replay::holds_stored16(rows, fill, n, part(b, 296 + 2 * size(b, 24 + 2 * k), 2 * n))
 }
 
-// A call on 8-bit rows, a preview or a report.
-fn eight(b: &[u8; 808], dc: &[u8], ac: &[u8]) -> bool {
+// An 8-bit plane or a report: one plane's rows.
+fn one8(b: &[u8; 808], dc: &[u8], ac: &[u8]) -> bool {
+    let mut p = [b[1]; 280];
+    let ok = if b[0] == 0 {
+        plane8(b, dc, ac, &mut p)
+    } else {
+        reported(b, ac, &mut p)
+    };
+    ok && same8(b, 0, &p)
+}
+
+// A preview: the rows of two planes.
+fn two8(b: &[u8; 808], dc: &[u8]) -> bool {
+    let mut p0 = [b[1]; 280];
+    let mut p1 = [b[1]; 280];
+    let ok = previewed(b, dc, &mut p0, &mut p1);
+    ok && same8(b, 0, &p0) && same8(b, 1, &p1)
+}
+
+// An 8-bit slice.
+fn four8(b: &[u8; 808], dc: &[u8], ac: &[u8]) -> bool {
     let mut p0 = [b[1]; 280];
     let mut p1 = [b[1]; 280];
     let mut p2 = [b[1]; 280];
     let mut p3 = [b[1]; 280];
-    let op = b[0];
-    let ok = if op == 0 {
-        plane8(b, dc, ac, &mut p0)
-    } else if op == 2 {
-        slice8(b, dc, ac, &mut p0, &mut p1, &mut p2, &mut p3)
-    } else if op == 4 {
-        previewed(b, dc, &mut p0, &mut p1)
-    } else {
-        reported(b, ac, &mut p0)
-    };
+    let ok = slice8(b, dc, ac, &mut p0, &mut p1, &mut p2, &mut p3);
     ok && same8(b, 0, &p0) && same8(b, 1, &p1) && same8(b, 2, &p2) && same8(b, 3, &p3)
 }
 
-// A call on 10-bit rows.
-fn ten(b: &[u8; 808], dc: &[u8], ac: &[u8]) -> bool {
+// A 10-bit plane.
+fn one10(b: &[u8; 808], dc: &[u8], ac: &[u8]) -> bool {
+    let mut p = [replay::twice(b[1]); 280];
+    let ok = plane10(b, dc, ac, &mut p);
+    ok && same10(b, 0, &p)
+}
+
+// A 10-bit slice.
+fn four10(b: &[u8; 808], dc: &[u8], ac: &[u8]) -> bool {
     let fill = replay::twice(b[1]);
     let mut p0 = [fill; 280];
     let mut p1 = [fill; 280];
     let mut p2 = [fill; 280];
     let mut p3 = [fill; 280];
-    let ok = if b[0] == 1 {
-        plane10(b, dc, ac, &mut p0)
-    } else {
-        slice10(b, dc, ac, &mut p0, &mut p1, &mut p2, &mut p3)
-    };
+    let ok = slice10(b, dc, ac, &mut p0, &mut p1, &mut p2, &mut p3);
     ok && same10(b, 0, &p0) && same10(b, 1, &p1) && same10(b, 2, &p2) && same10(b, 3, &p3)
 }
 
 // The call that the record names, on these streams.
 fn called(b: &[u8; 808], dc: &[u8], ac: &[u8]) -> bool {
-    let op = b[0];
-    if op == 1 {
-        return ten(b, dc, ac);
+    match b[0] {
+        1 => one10(b, dc, ac),
+        2 => four8(b, dc, ac),
+        3 => four10(b, dc, ac),
+        4 => two8(b, dc),
+        _ => one8(b, dc, ac),
     }
-    if op == 3 {
-        return ten(b, dc, ac);
-    }
-    eight(b, dc, ac)
+}
+
+// The longest stream that may be read, or a byte more.
+fn longest(n: usize, more: bool) -> usize
+    requires { ⌜ n < 1000000 ⌝ }
+{
+    if more { n + 1 } else { n }
 }
 
 // Streams of ones, as long as may be read, or with a byte more.
 fn on_long(b: &[u8; 808]) -> bool {
-    let dc = [255u8; 245761];
-    let ac = [255u8; 430081];
-    let long = b[3];
-    if long == 1 {
-        called(b, &dc[..245760], &ac[..430080])
-    } else if long == 2 {
-        called(b, &dc, &ac[..430080])
-    } else {
-        called(b, &dc[..245760], &ac)
-    }
+    let d = longest(245760, b[3] == 2);
+    let a = longest(430080, b[3] == 3);
+    let ones = [255u8; 430081];
+    called(b, part(&ones, 0, d), part(&ones, 0, a))
 }
 
 fn holds(b: &[u8; 808]) -> bool {

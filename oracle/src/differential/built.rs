@@ -37,8 +37,7 @@ fn built(run: &mut Run) {
     let behind = run.rng.below(7);
     let before = run.rng.bytes(at + frame.len() + behind);
     let mut out = before.clone();
-    let shift = if p.dc_shift == 0 && run.rng.once_in(2) { None } else { Some(p.dc_shift) };
-    let mut state = match builder::start(size, p.interlaced, p.quality, shift, &mut out, at) {
+    let mut state = match builder::start(size, p.interlaced, p.quality, p.dc_shift, &mut out, at) {
         Ok(state) => state,
         Err(x) => return run.report.check(kind, false, 0, || format!("header refused with {x}: {p:?}")),
     };
@@ -125,15 +124,14 @@ fn header_refused(run: &mut Run) {
     let rng = &mut run.rng;
     let size = frames::any_dimensions(rng);
     let shift = match rng.below(3) {
-        0 => None,
-        1 => Some(rng.below(18) as u32),
-        _ => Some(rng.next() as u32),
+        0 => 0,
+        1 => rng.below(18) as u32,
+        _ => rng.next() as u32,
     };
     let n = rng.below(10);
     let at = if rng.once_in(4) { rng.next() as usize } else { rng.below(8) };
-    let s = shift.unwrap_or(0);
-    let header = if s > 0 { 5 } else { 3 };
-    let wanted = if s > 15 {
+    let header = if shift > 0 { 5 } else { 3 };
+    let wanted = if shift > 15 {
         2
     } else if n.checked_sub(at).is_none_or(|left| left < header) {
         6
@@ -149,7 +147,7 @@ fn header_refused(run: &mut Run) {
     let mut out = before.clone();
     let found = builder::start(size, rng.once_in(2), 80, shift, &mut out, at);
     run.report.same(kind, &(found, &out), &(Err(wanted), &before), n, || {
-        format!("{size:?} shift {shift:?} room {n} at {at}")
+        format!("{size:?} shift {shift} room {n} at {at}")
     });
 }
 
@@ -180,9 +178,9 @@ fn rows(run: &mut Run) {
         Ok(from[slice * 16 * stride..(slice + 1) * 16 * stride].to_vec())
     };
     let text = || format!("stride {stride} slice {slice} verdict {verdict} lengths {n} {m}");
-    run.report.same(kind, &shown::rows8(&new, &held, stride, slice, verdict), &wanted, n, text);
+    run.report.same(kind, &shown::rows(&new, &held, stride, slice, verdict), &wanted, n, text);
     let wide = |v: &[u8]| -> Vec<u16> { v.iter().map(|b| 257 * *b as u16).collect() };
-    let found = shown::rows16(&wide(&new), &wide(&held), stride, slice, verdict);
+    let found = shown::rows(&wide(&new), &wide(&held), stride, slice, verdict);
     run.report.same(kind, &found, &wanted.map(|v| wide(&v)), n, text);
     let (a, b) = (run.rng.next(), run.rng.next());
     let time = if verdict == 0 { a } else { b };

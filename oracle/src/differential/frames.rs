@@ -43,7 +43,7 @@ impl Kinds {
             written: kind("what was written is read back"),
             read: kind("read"),
             refused: kind("refused"),
-            views: kind("streams handed back"),
+            views: kind("places of streams"),
         }
     }
 }
@@ -147,10 +147,6 @@ fn judged(run: &mut Run, kinds: &Kinds, width: usize, height: usize, l: &Layout,
             });
             let found = ours::layout::view(width, height, frame, ac, slice);
             run.report.same(kinds.views, &found, &wanted, frame.len(), || format!("slice {slice} ac {ac} {}", text()));
-            let (at, len) = wanted.unwrap_or((0, 0));
-            let first = if len > 0 { frame[at] } else { 0 };
-            let part = ours::layout::stream(width, height, frame, ac, slice);
-            run.report.same(kinds.views, &part, &(len, first), frame.len(), || format!("slice {slice} ac {ac} {}", text()));
         }
     }
 }

@@ -1,57 +1,51 @@
-//! Crate builder, by crates/probe/src/of_builder.rt.
+//! Building a frame, through the library that programs link (include/vmx.h).
 
 extern "C" {
-    #[allow(clippy::too_many_arguments)]
-    fn probe_builder_start(
-        width: usize,
-        height: usize,
-        interlaced: bool,
-        quality: u8,
-        named: bool,
-        shift: u32,
-        out: *mut u8,
-        n: usize,
-        at: usize,
-        state: *mut usize,
-        sn: usize,
+    fn vmx_frame_start(
+        width: usize, height: usize, interlaced: u32, quality: u8, shift: u32, out: *mut u8, n: usize, slices: *mut usize,
+        max_dc: *mut usize, max_ac: *mut usize, ac_turn: *mut u32, next: *mut usize, at: *mut usize,
     ) -> u32;
-    fn probe_builder_stream(
-        state: *mut usize,
-        sn: usize,
-        ac: bool,
-        slice: usize,
-        bytes: *const u8,
-        bn: usize,
-        out: *mut u8,
-        n: usize,
+    fn vmx_frame_put(
+        slices: usize, max_dc: usize, max_ac: usize, ac: u32, slice: usize, stream: *const u8, sn: usize, out: *mut u8,
+        n: usize, ac_turn: *mut u32, next: *mut usize, at: *mut usize,
     ) -> u32;
 }
 
 /// The builder's state: slices, both limits, AC's turn, next slice, place.
 pub type State = [usize; 6];
 
-/// A frame's header at `at`; `shift` where one is named.
+/// A frame's header at `at`.
 pub fn start(
     (width, height): (usize, usize),
     interlaced: bool,
     quality: u8,
-    shift: Option<u32>,
+    shift: u32,
     out: &mut [u8],
     at: usize,
 ) -> Result<State, u32> {
-    let mut state = [0; 6];
-    let (named, s) = (shift.is_some(), shift.unwrap_or(0));
+    let (mut slices, mut max_dc, mut max_ac, mut turn, mut next, mut place) = (7, 7, 7, 7, 7, at);
     let (p, n) = (out.as_mut_ptr(), out.len());
-    match unsafe {
-        probe_builder_start(width, height, interlaced, quality, named, s, p, n, at, state.as_mut_ptr(), 6)
-    } {
-        0 => Ok(state),
-        number => Err(number),
+    let number = unsafe {
+        vmx_frame_start(
+            width, height, interlaced as u32, quality, shift, p, n, &mut slices, &mut max_dc, &mut max_ac, &mut turn, &mut next,
+            &mut place,
+        )
+    };
+    let state = [slices, max_dc, max_ac, turn as usize, next, place];
+    if number > 0 {
+        assert_eq!(state, [7, 7, 7, 7, 7, at], "a refused header leaves the state as it was");
+        return Err(number);
     }
+    Ok(state)
 }
 
 /// One stream; the number, 0 where it is accepted.
 pub fn stream(state: &mut State, ac: bool, slice: usize, bytes: &[u8], out: &mut [u8]) -> u32 {
     let (b, bn, p, n) = (bytes.as_ptr(), bytes.len(), out.as_mut_ptr(), out.len());
-    unsafe { probe_builder_stream(state.as_mut_ptr(), 6, ac, slice, b, bn, p, n) }
+    let [slices, max_dc, max_ac, turn, next, at] = state;
+    let mut ac_turn = *turn as u32;
+    let number =
+        unsafe { vmx_frame_put(*slices, *max_dc, *max_ac, ac as u32, slice, b, bn, p, n, &mut ac_turn, next, at) };
+    *turn = ac_turn as usize;
+    number
 }

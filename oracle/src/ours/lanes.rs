@@ -11,7 +11,7 @@ extern "C" {
     fn probe_lanes_splat(v: i16, out: *mut i16, n: usize);
     fn probe_lanes_splat32(v: i32, out: *mut i32, n: usize);
     fn probe_lanes_load_u(t: *const u16, tn: usize, out: *mut i16, n: usize);
-    fn probe_lanes_packus8(a: *const i16, an: usize, out: *mut u8, n: usize);
+    fn probe_lanes_packus8(a: *const i16, an: usize, k: usize) -> u8;
 }
 
 /// An operation's number: its place in the list.
@@ -88,7 +88,5 @@ pub fn load_u(t: &[u16; 8]) -> V16 {
 }
 
 pub fn packus8(a: V16) -> [u8; 8] {
-    let mut r = [0; 8];
-    unsafe { probe_lanes_packus8(a.as_ptr(), 8, r.as_mut_ptr(), 8) };
-    r
+    core::array::from_fn(|k| unsafe { probe_lanes_packus8(a.as_ptr(), 8, k) })
 }

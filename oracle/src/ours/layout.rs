@@ -1,79 +1,72 @@
-//! Crates layout and parser, by crates/probe/src/of_layout.rt.
+//! Frame geometry and reading a frame, through the library that programs link (include/vmx.h).
 
 extern "C" {
-    fn probe_layout_new(width: usize, height: usize, out: *mut usize, n: usize) -> u32;
-    fn probe_layout_interlace_capable(height: usize) -> bool;
-    fn probe_layout_image_row(height: usize, r: usize, interlaced: bool) -> usize;
-    fn probe_layout_preview_width(width: usize) -> usize;
-    fn probe_layout_preview_height(height: usize, interlaced: bool) -> usize;
-    fn probe_layout_parse(width: usize, height: usize, frame: *const u8, len: usize, out: *mut usize, n: usize) -> u32;
-    fn probe_layout_view_at(
-        width: usize,
-        height: usize,
-        frame: *const u8,
-        len: usize,
-        ac: bool,
-        slice: usize,
-        out: *mut usize,
-        n: usize,
+    fn vmx_layout(
+        width: usize, height: usize, aligned_height: *mut usize, slices: *mut usize, luma: *mut usize, chroma: *mut usize,
+        max_dc: *mut usize, max_ac: *mut usize,
     ) -> u32;
-    fn probe_layout_stream(
-        width: usize,
-        height: usize,
-        frame: *const u8,
-        len: usize,
-        ac: bool,
-        slice: usize,
-        out: *mut u8,
-        n: usize,
-    ) -> usize;
+    fn vmx_interlace_capable(height: usize) -> u32;
+    fn vmx_image_row(height: usize, r: usize, interlaced: u32, row: *mut usize) -> u32;
+    fn vmx_preview_width(width: usize) -> usize;
+    fn vmx_preview_height(height: usize, interlaced: u32) -> usize;
+    fn vmx_parse(
+        width: usize, height: usize, frame: *const u8, n: usize, interlaced: *mut u32, quality: *mut u32, shift: *mut u32,
+        header_len: *mut usize, ac: *mut u32,
+    ) -> u32;
+    fn vmx_stream(
+        width: usize, height: usize, frame: *const u8, n: usize, ac: u32, slice: usize, offset: *mut usize, len: *mut usize,
+    ) -> u32;
 }
 
 /// Aligned height, slices, strides of planes 0 and 1, limits for DC and AC; or the refusal's number.
 pub fn new(width: usize, height: usize) -> Result<[usize; 6], u32> {
-    let mut out = [0; 6];
-    match unsafe { probe_layout_new(width, height, out.as_mut_ptr(), 6) } {
+    let mut out = [7; 6];
+    let [h, s, y, c, d, a] = &mut out;
+    match unsafe { vmx_layout(width, height, h, s, y, c, d, a) } {
         0 => Ok(out),
-        number => Err(number),
+        number => {
+            assert_eq!(out, [7; 6], "a refused size stores nothing");
+            Err(number)
+        }
     }
 }
 
 pub fn interlace_capable(height: usize) -> bool {
-    unsafe { probe_layout_interlace_capable(height) }
+    unsafe { vmx_interlace_capable(height) == 1 }
 }
 
 pub fn image_row(height: usize, r: usize, interlaced: bool) -> Option<usize> {
-    let y = unsafe { probe_layout_image_row(height, r, interlaced) };
-    (y < 100_000).then_some(y)
+    let mut row = 0;
+    (unsafe { vmx_image_row(height, r, interlaced as u32, &mut row) } == 1).then_some(row)
 }
 
 pub fn preview_size(width: usize, height: usize, interlaced: bool) -> (usize, usize) {
-    unsafe { (probe_layout_preview_width(width), probe_layout_preview_height(height, interlaced)) }
+    unsafe { (vmx_preview_width(width), vmx_preview_height(height, interlaced as u32)) }
 }
 
 /// Interlaced, quality, DC shift, header length, AC there; or the refusal's number.
 pub fn parse(width: usize, height: usize, frame: &[u8]) -> Result<[usize; 5], u32> {
-    let mut out = [0; 5];
-    match unsafe { probe_layout_parse(width, height, frame.as_ptr(), frame.len(), out.as_mut_ptr(), 5) } {
-        0 => Ok(out),
-        number => Err(number),
+    let (mut interlaced, mut quality, mut shift, mut header_len, mut ac) = (7, 7, 7, 7, 7);
+    let (p, n) = (frame.as_ptr(), frame.len());
+    let number =
+        unsafe { vmx_parse(width, height, p, n, &mut interlaced, &mut quality, &mut shift, &mut header_len, &mut ac) };
+    let found = [interlaced as usize, quality as usize, shift as usize, header_len, ac as usize];
+    if number > 0 {
+        assert_eq!(found, [7; 5], "a refused frame stores nothing");
+        return Err(number);
     }
+    Ok(found)
 }
 
 /// A slice's stream as offset and length; or the refusal's number.
 pub fn view(width: usize, height: usize, frame: &[u8], ac: bool, slice: usize) -> Result<(usize, usize), u32> {
-    let mut out = [0; 2];
+    let (mut offset, mut len) = (7, 7);
     let (p, n) = (frame.as_ptr(), frame.len());
-    match unsafe { probe_layout_view_at(width, height, p, n, ac, slice, out.as_mut_ptr(), 2) } {
-        0 => Ok((out[0], out[1])),
-        number => Err(number),
+    match unsafe { vmx_stream(width, height, p, n, ac as u32, slice, &mut offset, &mut len) } {
+        0 => Ok((offset, len)),
+        number => {
+            assert_eq!((offset, len), (0, 0), "a refused stream is an empty part");
+            Err(number)
+        }
     }
-}
-
-/// The length of a slice's stream as it is handed back, and its first byte.
-pub fn stream(width: usize, height: usize, frame: &[u8], ac: bool, slice: usize) -> (usize, u8) {
-    let mut first = [0];
-    let (p, n) = (frame.as_ptr(), frame.len());
-    let len = unsafe { probe_layout_stream(width, height, p, n, ac, slice, first.as_mut_ptr(), 1) };
-    (len, first[0])
 }

@@ -1,25 +1,20 @@
-//! Crate tables, by crates/probe/src/of_tables.rt.
+//! Crate tables, by crates/probe/src/of_tables.rt; the presets through the library that programs link (include/vmx.h).
 
 extern "C" {
-    fn probe_tables_encode(preset: usize, out: *mut u16, n: usize);
-    fn probe_tables_decode(preset: usize, out: *mut u16, n: usize);
+    fn probe_tables_encode(preset: usize, i: usize) -> u16;
+    fn probe_tables_decode(preset: usize, i: usize) -> u16;
     fn probe_tables_zigzag(i: usize) -> u8;
-    fn probe_tables_quality(q: u8) -> u8;
-    fn probe_tables_preset(q: u8) -> usize;
+    fn vmx_quality_preset(quality: u8, kept: *mut u8, preset: *mut usize);
 }
 
 /// Correction, reciprocal and scale of a preset's places.
 pub fn encode(preset: usize) -> [u16; 192] {
-    let mut out = [0; 192];
-    unsafe { probe_tables_encode(preset, out.as_mut_ptr(), 192) };
-    out
+    core::array::from_fn(|i| unsafe { probe_tables_encode(preset, i) })
 }
 
 /// The divisors of a preset.
 pub fn decode(preset: usize) -> [u16; 64] {
-    let mut out = [0; 64];
-    unsafe { probe_tables_decode(preset, out.as_mut_ptr(), 64) };
-    out
+    core::array::from_fn(|i| unsafe { probe_tables_decode(preset, i) })
 }
 
 pub fn zigzag() -> [usize; 64] {
@@ -28,5 +23,7 @@ pub fn zigzag() -> [usize; 64] {
 
 /// The quality in force for q, and its preset.
 pub fn quality_preset(q: u8) -> (i32, usize) {
-    unsafe { (probe_tables_quality(q) as i32, probe_tables_preset(q)) }
+    let (mut kept, mut preset) = (0, 0);
+    unsafe { vmx_quality_preset(q, &mut kept, &mut preset) };
+    (kept as i32, preset)
 }
