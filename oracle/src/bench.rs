@@ -6,6 +6,7 @@ use crate::gen::planes::Made;
 use crate::gen::Rng;
 use crate::ours::{self, planes::OURS};
 use crate::questions::{self, Settings};
+use reference::api::layout::{self, Layout};
 use reference::api::tables::quant;
 use reference::api::{dct, Depth, PATHS};
 use reference::api::bits::{AcSymbol, Cursor, Writer};
@@ -23,6 +24,7 @@ pub fn run() -> ExitCode {
     blocks();
     calls::<u8>("8-bit");
     calls::<u16>("10-bit");
+    frames();
     ExitCode::SUCCESS
 }
 
@@ -246,10 +248,15 @@ fn reading<T: Made>(name: &str, settings: Settings, plane: &Plane<T>) {
     line(&format!("block read, {name}"), ours, sse2, Some(portable));
 }
 
-/// A slice of three planes, 4:2:2.
+/// The planes of a slice, 4:2:2.
+fn three_planes<T: Made>() -> Vec<Plane<T>> {
+    [1920, 960, 960].iter().enumerate().map(|(p, s)| (p, *s, content::<T>(*s).2)).collect()
+}
+
+/// A slice of three planes.
 fn slices<T: Made>(depth: &str) {
     let settings = Settings { preset: 8, dc_shift: 0 };
-    let planes: Vec<Plane<T>> = [1920, 960, 960].iter().enumerate().map(|(p, s)| (p, *s, content::<T>(*s).2)).collect();
+    let planes = three_planes::<T>();
     let blocks: usize = planes.iter().map(|p| p.1 / 4).sum();
     let mut b = room(3840);
     let ours = best(blocks, || {
@@ -298,4 +305,40 @@ fn alone<T: Made>(depth: &str) {
     let ours = time(&mut |_, _, f, b| OURS.block_report(1920, f, b));
     let theirs = time(&mut |_, _, f, b| rust.block_report(1920, f, b));
     line(&format!("block reported, {depth}"), ours, theirs, None);
+}
+
+/// A frame of 1,920 x 1,080 samples, 4:2:2: its header, the places of its 136 streams, and the frame built from them. The
+/// Rust's `parse` does the first two at once, and neither depends on its path.
+fn frames() {
+    const SIZE: (usize, usize) = (1920, 1080);
+    const TIMES: usize = 20;
+    let layout = Layout::new(SIZE.0, SIZE.1).unwrap();
+    let b = coded(Settings { preset: 8, dc_shift: 0 }, &three_planes::<u8>());
+    let (dc, ac) = (vec![b.dc; layout.slices()], vec![b.ac; layout.slices()]);
+    let frame = layout::write(&layout, false, 90, 0, &dc, &ac);
+    let mut out = vec![0; frame.len()];
+    let time = |f: &mut dyn FnMut()| best(TIMES, || (0..TIMES).for_each(|_| f()));
+
+    let rust = time(&mut || assert_eq!(layout::stream_count(&layout, black_box(&frame)), Ok(2 * layout.slices())));
+    let ours = time(&mut || assert!(ours::layout::parse(SIZE.0, SIZE.1, black_box(&frame)).is_ok()));
+    line("frame's header and lengths read, 1920 x 1080", ours, rust, None);
+    let ours = time(&mut || {
+        for ac in [false, true] {
+            for slice in 0..layout.slices() {
+                assert!(black_box(ours::layout::view(SIZE.0, SIZE.1, black_box(&frame), ac, slice)).is_ok());
+            }
+        }
+    });
+    line("all 136 streams of that frame found", ours, rust, None);
+    let ours = time(&mut || {
+        let mut state = ours::builder::start(SIZE, false, 90, 0, black_box(&mut out), 0).unwrap();
+        for (is_ac, streams) in [(false, &dc), (true, &ac)] {
+            for (slice, s) in streams.iter().enumerate() {
+                assert_eq!(ours::builder::stream(&mut state, is_ac, slice, s, &mut out), 0);
+            }
+        }
+    });
+    assert!(out == frame);
+    let rust = time(&mut || drop(black_box(layout::write(&layout, false, 90, 0, black_box(&dc), &ac))));
+    line("that frame built from its streams", ours, rust, None);
 }

@@ -73,6 +73,12 @@ pub fn parse(layout: &Layout, data: &[u8]) -> Result<Container, Error> {
     })
 }
 
+/// The published reading alone: how many streams it found. For timing.
+pub fn stream_count(layout: &Layout, data: &[u8]) -> Result<usize, Error> {
+    let c = std::hint::black_box(crate::layout::parse(&layout.0, data)?);
+    Ok(c.dc.len() + c.ac.len())
+}
+
 pub fn write(
     layout: &Layout,
     interlaced: bool,
