@@ -89,11 +89,11 @@ module _ {depth : Depth} {preset shift : ℕ} {p : Plane} {dc ac : List ℕ} {d 
   inside j k o hj hk e i = omega (arith, corner-fits j k (p .stride) hj hk, o .rows-long, as-long i)
 
   -- one block
-  pub next : (j k : ℕ) {c : ℕ} {s : Stand} (b : BlockGot) (rows y : List ℕ) → PlaneGood preset shift (p .stride) (p .samples) dc d ac a → j < 2 → k < columnsOf (p .stride)
+  pub next : (j k : ℕ) {c : ℕ} {s : Stand} (b : BlockGot) (rows rows' : List ℕ) → PlaneGood preset shift (p .stride) (p .samples) dc d ac a → j < 2 → k < columnsOf (p .stride)
       → NextBlock shift dc ac s b → c ≡ 8 * j * p .stride + 8 * k
-      → y ≡ storeBlock (p .stride) (sampleAt (blockSamples depth preset (p .place) (blockOf b))) (take (length rows - c) (drop c rows))
-      → Behind depth preset shift p dc ac d a j k s rows → Behind depth preset shift p dc ac d a j (k + 1) (b .next) (take c rows ++ (y ++ drop (length rows - c) (drop c rows)))
-  next j k {c} {s} b rows y o hj hk x ec ey i =
+      → rows' ≡ take c rows ++ (storeBlock (p .stride) (sampleAt (blockSamples depth preset (p .place) (blockOf b))) (take (length rows - c) (drop c rows)) ++ drop (length rows - c) (drop c rows))
+      → Behind depth preset shift p dc ac d a j k s rows → Behind depth preset shift p dc ac d a j (k + 1) (b .next) rows'
+  next j k {c} {s} b rows rows' o hj hk x ec ey i =
       let n = blocksOf (p .stride) in
       let m = inFront (columnsOf (p .stride)) j k in
       let h : m < n = below (columnsOf (p .stride)) j k hj hk in
@@ -102,9 +102,10 @@ module _ {depth : Depth} {preset shift : ℕ} {p : Plane} {dc ac : List ℕ} {d 
       (record {
         going = going-next shift n dc ac d a m s b (o .good) h (i .going) x;
         painted =
-            painted-next (p .stride) j k (o .eights) hk hj (sampleIn depth preset (p .place) (got shift (p .stride) dc ac d a)) (sampleAt (blockSamples depth preset (p .place) (blockOf b)))
+            ey
+            ∙ painted-next (p .stride) j k (o .eights) hk hj (sampleIn depth preset (p .place) (got shift (p .stride) dc ac d a)) (sampleAt (blockSamples depth preset (p .place) (blockOf b)))
             (λ q l. ap (λ (z : List ℕ). getD z q 0) (block-here shift n dc ac d a (blockSamples depth preset (p .place)) m s b (o .good) h (i .going) x))
-            m c (p .samples) rows y refl ec (omega (arith, corner-fits j k (p .stride) hj hk, o .rows-long)) (i .painted) ey;
+            m c (p .samples) rows (storeBlock (p .stride) (sampleAt (blockSamples depth preset (p .place) (blockOf b))) (take (length rows - c) (drop c rows))) refl ec (omega (arith, corner-fits j k (p .stride) hj hk, o .rows-long)) (i .painted) refl;
       })
 
   -- a block row

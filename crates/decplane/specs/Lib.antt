@@ -1,1 +1,2 @@
+pub mod Depths
 pub mod Storing

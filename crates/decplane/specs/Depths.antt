@@ -1,0 +1,26 @@
+-- A plane's rows at either depth.
+use mathlib.Core.Path.{_≡_}
+use mathlib.Core.Bool.{Bool, true, false}
+use mathlib.Core.List.{List, _++_}
+use Prim.Native.Nat.{ℕ, _-_}
+use lib.IntN.{ℤ}
+use lib.ListN.{length, take, drop}
+use Rattle.paint.specs.Paint.{storeBlock, sampleAt}
+use Rattle.slice.specs.Arguments.{Depth, eight, ten}
+use Rattle.slice.specs.ReadPlane.{BlockRead}
+use Rattle.slice.specs.Plane.{level, blockSamples}
+
+abbrev pub depthOf : Bool → Depth
+depthOf false = eight
+depthOf true = ten
+
+-- of the rows lent at both depths, those of one
+abbrev pub rowsOf : Bool → List ℕ → List ℕ → List ℕ
+rowsOf false rows8 rows16 = rows8
+rowsOf true rows8 rows16 = rows16
+
+-- the block b is painted into the rows at the corner c, whatever place has the level v
+abbrev pub PaintedAt : Depth → ℕ → ℕ → ℕ → ℤ → BlockRead → List ℕ → List ℕ → Type 0
+PaintedAt depth c stride preset v b rows rows' =
+    (place : ℕ) → v ≡ level depth place
+    → rows' ≡ take c rows ++ (storeBlock stride (sampleAt (blockSamples depth preset place b)) (take (length rows - c) (drop c rows)) ++ drop (length rows - c) (drop c rows))
