@@ -1,11 +1,9 @@
 -- One turn of the loop over the lanes, stated once for every operation: the result of the operation on one lane goes to the lane's place.
-use mathlib.Core.Path.{_≡_, _∙_, ap}
-use mathlib.Core.List.{List, _++_}
-use Prim.Native.Nat.{ℕ, _+_, _-_, _<_, _≤_}
-use native.Mathlib.Omega.{arith}
-use lib.IntN.{ℤ, pos}
-use lib.ListN.{length, set, List·getD-append}
-use lib.Seq.{getD-append-add}
+use mathlib.Core.Path.{_≡_}
+use mathlib.Core.List.{List}
+use Prim.Native.Nat.{ℕ, _+_, _<_}
+use lib.IntN.{ℤ}
+use lib.ListN.{set}
 use mir.Syntax.{Width}
 use mir.Val.{SFits}
 use Rattle.scalar.specs.Tab.{lane}
@@ -21,13 +19,3 @@ turn1 n f a r k h i p g e = filled-next n (λ j. f (lane a j)) r k h i (lane1 f 
 pub turn2 : {w v : Width} (n : ℕ) (f : ℤ → ℤ → ℤ) (a b r : List ℤ) (k : ℕ) {z : ℤ} → k < n → Filled n (λ i. f (lane a i) (lane b i)) r k
     → SFits w (lane a k) → SFits w (lane b k) → SFits v z → z ≡ f (back w (lane a k)) (back w (lane b k)) → Filled n (λ i. f (lane a i) (lane b i)) (set r k (back v z)) (k + 1)
 turn2 n f a b r k h i p q g e = filled-next n (λ j. f (lane a j) (lane b j)) r k h i (lane2 f p q g e)
-
--- lane k of four lanes followed by four
-
-pub joined-low : (a b : List ℤ) (k : ℕ) → length a ≡ 4 → k < 4 → lane (a ++ b) k ≡ lane a k
-joined-low a b k e h = List·getD-append a b (pos 0) k (omega arith)
-
-pub joined-high : (a b : List ℤ) (k : ℕ) → length a ≡ 4 → 4 ≤ k → lane (a ++ b) k ≡ lane b (k - 4)
-joined-high a b k e h =
-    let i : k ≡ length a + (k - 4) = omega arith in
-    ap (lane (a ++ b)) i ∙ getD-append-add a b (k - 4) (pos 0)

@@ -1,0 +1,48 @@
+// Products of eight lanes, and pairs of them added (lanes.rs).
+ghost use mathlib.Core.Path.{_≡_};
+ghost use Rattle.lanes.specs.Lanes.{mm-mulhi-epi16, mm-mulhi-epu16, mm-mullo-epi16, mm-madd-epi16};
+
+// The high halves of the products.
+pub fn mulhi(a: [i16; 8], b: [i16; 8]) -> [i16; 8]
+    ensures { λ r. ⌜ r ≡ mm-mulhi-epi16 a b ⌝ }
+{
+    let mut r = [0i16; 8];
+    for k in 0..8 {
+        r[k] = scalar::mulhi1(a[k], b[k]);
+    }
+    r
+}
+
+// The high halves of the products, the lanes read as unsigned.
+pub fn mulhi_u(a: [i16; 8], b: [i16; 8]) -> [i16; 8]
+    ensures { λ r. ⌜ r ≡ mm-mulhi-epu16 a b ⌝ }
+{
+    let mut r = [0i16; 8];
+    for k in 0..8 {
+        r[k] = scalar::mulhi_u1(a[k], b[k]);
+    }
+    r
+}
+
+// The low halves of the products.
+pub fn mullo(a: [i16; 8], b: [i16; 8]) -> [i16; 8]
+    ensures { λ r. ⌜ r ≡ mm-mullo-epi16 a b ⌝ }
+{
+    let mut r = [0i16; 8];
+    for k in 0..8 {
+        r[k] = scalar::mullo1(a[k], b[k]);
+    }
+    r
+}
+
+// The products of each pair of lanes, added; the sum wraps at 32 bits.
+pub fn madd(a: [i16; 8], b: [i16; 8]) -> [i32; 4]
+    ensures { λ r. ⌜ r ≡ mm-madd-epi16 a b ⌝ }
+{
+    let mut r = [0i32; 4];
+    for k in 0..4 {
+        let i = 2 * k;
+        r[k] = scalar::madd1(a[i], b[i], a[i + 1], b[i + 1]);
+    }
+    r
+}
