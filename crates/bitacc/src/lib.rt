@@ -6,7 +6,6 @@ ghost use Prim.Native.Nat.{_+_, _-_, _*_, _/_, _%_, _^_, _≤_, _<_};
 ghost use lib.ListN.{length};
 ghost use Rattle.bits.specs.Bits.{bitsOf, bitLength, valueCode, runCode, padToByte};
 ghost use Rattle.bits.specs.Lay.{lay};
-ghost use Rattle.bits.specs.ByteRow.{wordBytes};
 ghost use Rattle.bitacc.specs.Put.{Room, LastRoom, Put, flushed};
 
 pub mod lent;
@@ -20,51 +19,6 @@ pub struct BitAcc {
     pub pos: usize,
 }
 
-// a, then the n bits of v.
-fn join(a: u64, n: u32, v: u64) -> u64
-    requires { ⌜ (n < 64) × (a < 2 ^ (64 - n)) × (v < 2 ^ n) ⌝ }
-    ensures { λ r. ⌜ r ≡ a * 2 ^ n + v ⌝ }
-{
-    (a << n) | v
-}
-
-// The n low bits of w.
-fn low(w: u64, n: u32) -> u64
-    requires { ⌜ n < 64 ⌝ }
-    ensures { λ r. ⌜ r ≡ w % 2 ^ n ⌝ }
-{
-    w & ((1 << n) - 1)
-}
-
-// Stores the eight bytes of w at p, the highest first.
-fn store8(out: &mut [u8], p: usize, w: u64)
-    requires { ⌜ p + 8 ≤ length (now out) ⌝ }
-    ensures { λ _. ⌜ now (out .exit) ≡ lay (now (out .entry)) p (wordBytes 8 w) ⌝ }
-{
-    out[p] = ((w >> 56) % 256) as u8;
-    out[p + 1] = ((w >> 48) % 256) as u8;
-    out[p + 2] = ((w >> 40) % 256) as u8;
-    out[p + 3] = ((w >> 32) % 256) as u8;
-    out[p + 4] = ((w >> 24) % 256) as u8;
-    out[p + 5] = ((w >> 16) % 256) as u8;
-    out[p + 6] = ((w >> 8) % 256) as u8;
-    out[p + 7] = (w % 256) as u8;
-}
-
-// Stores the m low bytes of w at p, the highest first.
-fn store_low(out: &mut [u8], p: usize, w: u64, m: u32)
-    requires { ⌜ (m ≤ 8) × (p + m ≤ length (now out)) ⌝ }
-    ensures { λ _. ⌜ now (out .exit) ≡ lay (now (out .entry)) p (wordBytes m w) ⌝ }
-{
-    let mut k = m;
-    let mut i = p;
-    while k > 0 {
-        k -= 1;
-        out[i] = ((w >> (8 * k)) % 256) as u8;
-        i += 1;
-    }
-}
-
 // Appends the n bits of v.
 pub fn put(a: BitAcc, v: u64, n: u32, out: &mut [u8]) -> BitAcc
     requires { ⌜ (n < 64) × (v < 2 ^ n) × Room a n (now out) ⌝ }
@@ -74,15 +28,15 @@ pub fn put(a: BitAcc, v: u64, n: u32, out: &mut [u8]) -> BitAcc
     let pos = a.pos;
     if n < free {
         return BitAcc {
-            acc: join(a.acc, n, v),
+            acc: bitstore::join(a.acc, n, v),
             nbits: a.nbits + n,
             pos,
         };
     }
     let r = n - free;
-    store8(out, pos, join(a.acc, free, v >> r));
+    bitstore::store8(out, pos, bitstore::join(a.acc, free, v >> r));
     BitAcc {
-        acc: low(v, r),
+        acc: bitstore::low(v, r),
         nbits: r,
         pos: pos + 8,
     }
@@ -121,7 +75,12 @@ pub fn put_run_value(a: BitAcc, n: u32, c: u32, out: &mut [u8]) -> BitAcc
 {
     let b = bits::bit_len(n);
     let k = 2 * bits::bit_len(c) - 1;
-    put(a, join(run_word(n, b), k, c as u64), 2 * b + k, out)
+    put(
+        a,
+        bitstore::join(run_word(n, b), k, c as u64),
+        2 * b + k,
+        out,
+    )
 }
 
 // Stores the bits that wait, with zero bits up to a byte.
@@ -131,8 +90,8 @@ pub fn align(a: BitAcc, out: &mut [u8]) -> BitAcc
 {
     let m = (a.nbits + 7) / 8;
     let pos = a.pos;
-    let w = join(a.acc, 8 * m - a.nbits, 0);
-    store_low(out, pos, w, m);
+    let w = bitstore::join(a.acc, 8 * m - a.nbits, 0);
+    bitstore::store_low(out, pos, w, m);
     BitAcc {
         acc: 0,
         nbits: 0,

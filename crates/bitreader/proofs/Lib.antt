@@ -1,5 +1,3 @@
-pub mod Num
-pub mod Words
 pub mod Leads
 pub mod Spans
 pub mod Looks

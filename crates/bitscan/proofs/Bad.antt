@@ -9,8 +9,8 @@ use native.Mathlib.Omega.{arith}
 use lib.ListN.{drop, getD}
 use Rattle.bits.specs.Bits.{Stream, odd, bitAt, num}
 use Rattle.bits.specs.Read.{zeros, Tail, badTail, number, readTail, Symbol, badSymbol, run, value, asRun, asValue, byHead, readSymbol, DcCode, badDc, zeroStep, step, asStep, byFirst, readDc}
-use Rattle.bitreader.proofs.Num.{num-of, zeros-all}
-use Rattle.bitreader.proofs.Words.{byte-most, num-byte}
+use Rattle.bitword.proofs.Num.{num-of, zeros-all}
+use Rattle.bitword.proofs.Words.{byte-most, num-byte}
 use Rattle.bitreader.proofs.Leads.{lt-or-ge}
 use Rattle.bitreader.proofs.Spans.{number-at}
 use Rattle.bitscan.specs.Six.{zeroBytes, noSixZeros}

@@ -20,7 +20,7 @@ pub fn plane8(
     ensures { λ r. ⌜ PlaneDone (settings eight preset shift) (plane place stride (now (rows .entry))) (now (dcs .entry)) d (now (acs .entry)) a r (now (dcs .exit)) (now (acs .exit)) ⌝ }
 {
     let v = planes::level8(place);
-    let k = tables::encode_numbers(preset);
+    let k = reciprocals::encode_numbers(preset);
     let cols = stride / 8;
     let mut s = planebits::begin(d, a);
     for j in 0..2 {
@@ -49,7 +49,7 @@ pub fn plane10(
     ensures { λ r. ⌜ PlaneDone (settings ten preset shift) (plane place stride (now (rows .entry))) (now (dcs .entry)) d (now (acs .entry)) a r (now (dcs .exit)) (now (acs .exit)) ⌝ }
 {
     let v = planes::level10(place);
-    let k = tables::encode_numbers(preset);
+    let k = reciprocals::encode_numbers(preset);
     let cols = stride / 8;
     let mut s = planebits::begin(d, a);
     for j in 0..2 {

@@ -40,7 +40,7 @@ pub extern "C" fn probe_blocks_forward8(
     if rows.len() < 8 * stride {
         return;
     }
-    let k = tables::encode_numbers(preset);
+    let k = reciprocals::encode_numbers(preset);
     for i in 0..stride / 8 {
         let z = dct::forward::fdct_quant_zig8(&rows[8 * i..], stride, 128, preset, &k);
         put_block(out, z);
@@ -67,7 +67,7 @@ pub extern "C" fn probe_blocks_forward16(
     if rows.len() < 8 * stride {
         return;
     }
-    let k = tables::encode_numbers(preset);
+    let k = reciprocals::encode_numbers(preset);
     for i in 0..stride / 8 {
         let z = dct::forward::fdct_quant_zig16(&rows[8 * i..], stride, 512, preset, &k);
         put_block(out, z);

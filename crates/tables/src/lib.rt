@@ -1,28 +1,13 @@
-// Quantiser numbers, zig-zag scan and quality presets (tables.rs; `reciprocal` and `QuantTables` of dct.rs; `quality_preset` of layout.rs).
+// Divisors, zig-zag scan and quality presets (tables.rs; `decode` of `QuantTables` of dct.rs; `quality_preset` of layout.rs).
 // A preset's numbers are copied out of the constants once for each plane: a constant that a loop indexes would be built anew in each turn.
 mod divisors;
 pub mod quality;
-mod table;
 
 ghost use mathlib.Core.Path.{_≡_};
 ghost use Prim.Native.Nat.{_<_};
 ghost use Rattle.tables.specs.Divisor.{divisorsOf};
-ghost use Rattle.tables.specs.Entries.{encodeOf};
 ghost use Rattle.tables.specs.Zigzag.{zigzag};
 ghost use Rattle.tables.specs.Quality.{qualityPreset};
-
-// The corrections, reciprocals and scales of a preset, natural order (`encode` of QuantTables).
-pub fn encode_numbers(preset: usize) -> [u16; 192]
-    requires { ⌜ preset < 25 ⌝ }
-    ensures { λ r. ⌜ r ≡ encodeOf preset ⌝ }
-{
-    let t = table::constant_table();
-    let mut k = [0u16; 192];
-    for j in 0..192 {
-        k[j] = table::number_in(&t, preset * 192 + j % 64 * 3 + j / 64);
-    }
-    k
-}
 
 // The 64 divisors of a preset, natural order (`decode` of QuantTables).
 pub fn decode_numbers(preset: usize) -> [u16; 64]
