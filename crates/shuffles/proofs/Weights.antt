@@ -36,6 +36,10 @@ pub light : (z : List ℤ) → Light (weighed z)
 unfolding weighed
 light z k h = rw (getD-tab 64 (λ (i : ℕ). flag (lane z i) * 2 ^ (i % 8)) k 0 h) (weigh-le (lane z k) (2 ^ (k % 8)))
 
+-- the sum of the first two of eight bytes from p on fits a byte, of the first three, and so on
+abbrev pub SumsFit : List ℕ → ℕ → Type 0
+SumsFit f p = (getD f p 0 + getD f (p + 1) 0 < 256) × (getD f p 0 + getD f (p + 1) 0 + getD f (p + 2) 0 < 256) × (getD f p 0 + getD f (p + 1) 0 + getD f (p + 2) 0 + getD f (p + 3) 0 < 256) × (getD f p 0 + getD f (p + 1) 0 + getD f (p + 2) 0 + getD f (p + 3) 0 + getD f (p + 4) 0 < 256) × (getD f p 0 + getD f (p + 1) 0 + getD f (p + 2) 0 + getD f (p + 3) 0 + getD f (p + 4) 0 + getD f (p + 5) 0 < 256) × (getD f p 0 + getD f (p + 1) 0 + getD f (p + 2) 0 + getD f (p + 3) 0 + getD f (p + 4) 0 + getD f (p + 5) 0 + getD f (p + 6) 0 < 256) × (getD f p 0 + getD f (p + 1) 0 + getD f (p + 2) 0 + getD f (p + 3) 0 + getD f (p + 4) 0 + getD f (p + 5) 0 + getD f (p + 6) 0 + getD f (p + 7) 0 < 256)
+
 module _ (f : List ℕ) (p : ℕ) (l : Light f) (e : p % 8 ≡ 0) (h : p + 8 ≤ 64) where
   at-most : (k : ℕ) → k < 8 → getD f (p + k) 0 ≤ 2 ^ k
   at-most k i =
@@ -48,6 +52,60 @@ module _ (f : List ℕ) (p : ℕ) (l : Light f) (e : p % 8 ≡ 0) (h : p + 8 ≤
   pub eight-le : eightFrom f p ≤ 255
   eight-le =
       omega (arith, first-le, at-most 1 (omega arith), at-most 2 (omega arith), at-most 3 (omega arith), at-most 4 (omega arith), at-most 5 (omega arith), at-most 6 (omega arith), at-most 7 (omega arith))
+
+  pub sums-fit : SumsFit f p
+  sums-fit = let k : eightFrom f p ≤ 255 = eight-le in (omega arith, omega arith, omega arith, omega arith, omega arith, omega arith, omega arith)
+
+-- ---- four sums put together
+
+-- what `half` asks, and what it asks of `eight` for the sum from p + k on
+abbrev pub HalfFrom : List ℕ → ℕ → Type 0
+HalfFrom f p = (p % 8 ≡ 0) × (p + 32 ≤ 64) × Light f
+
+abbrev pub EightFrom : List ℕ → ℕ → Type 0
+EightFrom f p = (p % 8 ≡ 0) × (p + 8 ≤ 64) × Light f
+
+pub eight-first : (f : List ℕ) (p : ℕ) → HalfFrom f p → EightFrom f p
+eight-first f p a = let h : p + 32 ≤ 64 = a .1 in (a .0, omega arith, a .2)
+
+pub eight-later : (f : List ℕ) (p k : ℕ) → k % 8 ≡ 0 → k ≤ 24 → HalfFrom f p → EightFrom f (p + k)
+eight-later f p k d i a =
+    let e : p % 8 ≡ 0 = a .0 in
+    let h : p + 32 ≤ 64 = a .1 in
+    (omega arith, omega arith, a .2)
+
+pub place-fits : (p k : ℕ) → k ≤ 24 → p + 32 ≤ 64 → p + k < 18446744073709551616
+place-fits p k i h = omega arith
+
+pub byte-fits : (x : ℕ) → x < 256 → x < 4294967296
+byte-fits x h = omega arith
+
+-- the next of the four: its place value times its sum fits, and so does what is put together with it
+pub second-fits : (s x : ℕ) → s < 256 → x < 256 → (256 * x < 4294967296) × (s + 256 * x < 4294967296) × (s + 256 * x < 65536)
+second-fits s x h i = (omega arith, omega arith, omega arith)
+
+pub third-fits : (s x : ℕ) → s < 65536 → x < 256 → (65536 * x < 4294967296) × (s + 65536 * x < 4294967296) × (s + 65536 * x < 16777216)
+third-fits s x h i = (omega arith, omega arith, omega arith)
+
+pub fourth-fits : (s x : ℕ) → s < 16777216 → x < 256 → (16777216 * x < 4294967296) × (s + 16777216 * x < 4294967296)
+fourth-fits s x h i = (omega arith, omega arith)
+
+pub put-together : (a b c d : ℕ) {x y z w : ℕ} → a ≡ x → b ≡ y → c ≡ z → d ≡ w
+    → a + 256 * b + 65536 * c + 16777216 * d ≡ x + 256 * y + 65536 * z + 16777216 * w
+put-together a b c d e f g h = omega arith
+
+-- two halves put together
+pub half-wide : (x : ℕ) → x < 4294967296 → x < 18446744073709551616
+half-wide x h = omega arith
+
+pub halves-fit : (s x : ℕ) → s < 4294967296 → x < 4294967296 → (4294967296 * x < 18446744073709551616) × (s + 4294967296 * x < 18446744073709551616)
+halves-fit s x h i = (omega arith, omega arith)
+
+pub from-0 : 0 + 32 ≤ 64
+from-0 = omega arith
+
+pub from-32 : 32 + 32 ≤ 64
+from-32 = omega arith
 
 -- ---- the mask by eights
 module _ (z : List ℤ) (n : length z ≡ 64) where
