@@ -27,16 +27,9 @@ pub fn load8(rows: &[u8], stride: usize) -> [i16; 64]
 {
     let mut b = [0i16; 64];
     for r in 0..8 {
-        let o = 8 * r;
-        let p = r * stride;
-        b[o] = lane8(rows[p]);
-        b[o + 1] = lane8(rows[p + 1]);
-        b[o + 2] = lane8(rows[p + 2]);
-        b[o + 3] = lane8(rows[p + 3]);
-        b[o + 4] = lane8(rows[p + 4]);
-        b[o + 5] = lane8(rows[p + 5]);
-        b[o + 6] = lane8(rows[p + 6]);
-        b[o + 7] = lane8(rows[p + 7]);
+        for k in 0..8 {
+            b[8 * r + k] = lane8(rows[r * stride + k]);
+        }
     }
     b
 }
@@ -48,16 +41,9 @@ pub fn load16(rows: &[u16], stride: usize) -> [i16; 64]
 {
     let mut b = [0i16; 64];
     for r in 0..8 {
-        let o = 8 * r;
-        let p = r * stride;
-        b[o] = lane16(rows[p]);
-        b[o + 1] = lane16(rows[p + 1]);
-        b[o + 2] = lane16(rows[p + 2]);
-        b[o + 3] = lane16(rows[p + 3]);
-        b[o + 4] = lane16(rows[p + 4]);
-        b[o + 5] = lane16(rows[p + 5]);
-        b[o + 6] = lane16(rows[p + 6]);
-        b[o + 7] = lane16(rows[p + 7]);
+        for k in 0..8 {
+            b[8 * r + k] = lane16(rows[r * stride + k]);
+        }
     }
     b
 }

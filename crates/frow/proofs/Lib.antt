@@ -1,4 +1,3 @@
-pub mod Turns
 pub mod Places
 pub mod Opposite
 pub mod Wrap

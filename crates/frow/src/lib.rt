@@ -18,13 +18,10 @@ pub fn mirror(c: [i16; 64]) -> [i16; 64]
     ensures { λ r. ⌜ r ≡ mirrorOf c ⌝ }
 {
     let mut x = [0i16; 64];
-    for h in 0..16 {
-        let o = 4 * h;
-        let p = 8 * (h / 2) + 7 - 4 * (h % 2);
-        x[o] = c[p];
-        x[o + 1] = c[p - 1];
-        x[o + 2] = c[p - 2];
-        x[o + 3] = c[p - 3];
+    for r in 0..8 {
+        for k in 0..8 {
+            x[8 * r + k] = c[8 * r + 7 - k];
+        }
     }
     x
 }
@@ -56,13 +53,11 @@ pub fn weave(s: [i16; 64], d: [i16; 64]) -> [i16; 64]
     ensures { λ r. ⌜ r ≡ weaveOf s d ⌝ }
 {
     let mut x = [0i16; 64];
-    for h in 0..16 {
-        let o = 4 * h;
-        let n = 8 * (h / 2) + 2 * (h % 2);
-        x[o] = s[n];
-        x[o + 1] = s[n + 1];
-        x[o + 2] = d[n];
-        x[o + 3] = d[n + 1];
+    for r in 0..8 {
+        for k in 0..8 {
+            let n = 8 * r + 2 * (k / 4) + k % 2;
+            x[8 * r + k] = if k / 2 % 2 == 0 { s[n] } else { d[n] };
+        }
     }
     x
 }
@@ -82,13 +77,10 @@ pub fn swap(c: [i16; 64]) -> [i16; 64]
     ensures { λ r. ⌜ r ≡ swapOf c ⌝ }
 {
     let mut x = [0i16; 64];
-    for h in 0..16 {
-        let o = 4 * h;
-        let p = 8 * (h / 2) + 4 - 4 * (h % 2);
-        x[o] = c[p];
-        x[o + 1] = c[p + 1];
-        x[o + 2] = c[p + 2];
-        x[o + 3] = c[p + 3];
+    for r in 0..8 {
+        for k in 0..8 {
+            x[8 * r + k] = c[8 * r + (k + 4) % 8];
+        }
     }
     x
 }
@@ -128,16 +120,10 @@ pub fn join(lo: [i16; 32], hi: [i16; 32]) -> [i16; 64]
 {
     let mut w = [0i16; 64];
     for r in 0..8 {
-        let o = 8 * r;
-        let p = 4 * r;
-        w[o] = lo[p];
-        w[o + 1] = lo[p + 1];
-        w[o + 2] = lo[p + 2];
-        w[o + 3] = lo[p + 3];
-        w[o + 4] = hi[p];
-        w[o + 5] = hi[p + 1];
-        w[o + 6] = hi[p + 2];
-        w[o + 7] = hi[p + 3];
+        for k in 0..8 {
+            let p = 4 * r + k % 4;
+            w[8 * r + k] = if k < 4 { lo[p] } else { hi[p] };
+        }
     }
     w
 }

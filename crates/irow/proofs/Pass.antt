@@ -13,12 +13,12 @@ use lib.ListN.{length}
 use Rattle.scalar.proofs.Fill.{length-tab, getD-tab, tab-ext}
 use Rattle.irow.specs.RowPass.{lane, rowTab, pairSum, evenSum, oddSum, rounded, pickZ, rowLane, rowsOf}
 use Rattle.irow.specs.Stages.{pairPlace, pairUpOf, spreadOf, pairsOf, inverseTab, evenOf, sumLane, diffLane, byFour, foldOf, pairedRows}
-use Rattle.irow.proofs.Place.{pairG, place, plus-zero₂}
+use Rattle.irow.proofs.Place.{place, plus-zero₂}
 use Rattle.irow.proofs.Wrap.{wrap-sum, wrap-diff}
 
 up-at : (a : List ℤ) (r k n : ℕ) → r < 8 → k < 8 → n ≡ 8 * r + k → lane (pairUpOf a) n ≡ lane a (8 * r + pairPlace k)
 unfolding pairUpOf
-up-at a r k n hr hk e = getD-tab 64 (λ i. lane a (8 * (i / 8) + pairPlace (i % 8))) n (pos 0) (omega arith) ∙ sym (place (pairG a) r k n hk e)
+up-at a r k n hr hk e = getD-tab 64 (λ i. lane a (8 * (i / 8) + pairPlace (i % 8))) n (pos 0) (omega arith) ∙ sym (place (λ r k. lane a (8 * r + pairPlace k)) r k n hk e)
 
 spread-at : (p : List ℤ) (from r b n : ℕ) → n < 64 → n / 8 ≡ r → n % 8 % 2 ≡ b → lane (spreadOf p from) n ≡ lane p (8 * r + (from + b))
 unfolding spreadOf

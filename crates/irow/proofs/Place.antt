@@ -1,7 +1,7 @@
 -- Blocks described by row and column, and loops that store a row a turn.
 use mathlib.Core.Path.{_≡_, refl, ap, _∙_}
 use mathlib.Core.List.{List}
-use Prim.Native.Nat.{ℕ, _+_, _-_, _*_, _/_, _%_, _<_, _≤_}
+use Prim.Native.Nat.{ℕ, zero, suc, _+_, _-_, _*_, _/_, _%_, _<_, _≤_}
 use native.Mathlib.Omega.{arith}
 use lib.Dec.{ltb}
 use lib.IntN.{ℤ}
@@ -10,21 +10,17 @@ use lib.Signed.{mag}
 use mir.Syntax.{w16}
 use mir.Facts.{toZ-ofZ}
 use borrow.Author.Needs.{sfits-of}
+use borrow.Author.Tests.{lt-ltb, le-ltb}
 use Rattle.scalar.specs.Scalar.{sat16, sraOf}
 use Rattle.scalar.proofs.Fill.{Filled, filled-next}
+use Rattle.scalar.proofs.InRows.{row-of, col-of}
 use Rattle.scalar.proofs.Laws.{back}
 use Rattle.irow.specs.RowPass.{lane, pickZ}
 use Rattle.irow.specs.Stages.{setRow, pairPlace}
 
 -- what stands in row r and column k, and so at place i
-abbrev pub pairG : List ℤ → ℕ → ℕ → ℤ
-pairG a r k = lane a (8 * r + pairPlace k)
-
 abbrev pub spreadG : List ℤ → ℕ → ℕ → ℕ → ℤ
 spreadG a from r k = lane a (8 * r + (from + k % 2))
-
-abbrev pub foldG : List ℤ → List ℤ → ℕ → ℕ → ℤ
-foldG lo hi r k = pickZ (ltb k 4) (lane lo (4 * r + k)) (lane hi (4 * r + (7 - k)))
 
 abbrev pub byPlace : (ℕ → ℕ → ℤ) → ℕ → ℤ
 byPlace g i = g (i / 8) (i % 8)
@@ -34,9 +30,6 @@ place g r k j h e =
     let q : j / 8 ≡ r = omega arith in
     let m : j % 8 ≡ k = omega arith in
     rw (q, m) refl
-
-pub plus-zero : (a : List ℤ) (n : ℕ) → lane a n ≡ lane a (n + 0)
-plus-zero a n = let e : n ≡ n + 0 = omega arith in ap (λ (i : ℕ). lane a i) e
 
 pub plus-zero₂ : (a : List ℤ) (m n : ℕ) → lane a (m + n) ≡ lane a (m + (n + 0))
 plus-zero₂ a m n = let e : m + n ≡ m + (n + 0) = omega arith in ap (λ (i : ℕ). lane a i) e
@@ -70,6 +63,36 @@ row-turn g x r {y} {z0} {z1} {z2} {z3} {z4} {z5} {z6} {z7} h i e b0 b1 b2 b3 b4 
     let s6 = more f x5 (8 * r + 5) (8 * r + 6) (omega arith) (omega arith) s5 (put-at g r 5 (8 * r + 5) (omega arith) (omega arith) b5 e5) in
     let s7 = more f x6 (8 * r + 6) (8 * r + 7) (omega arith) (omega arith) s6 (put-at g r 6 (8 * r + 6) (omega arith) (omega arith) b6 e6) in
     rw e (more f x7 (8 * r + 7) (8 * (r + 1)) (omega arith) (omega arith) s7 (put-at g r 7 (8 * r + 7) (omega arith) (omega arith) b7 e7))
+
+-- each row in pairs: the code's place and that of the list
+abbrev pub pairAt : List ℤ → ℕ → ℤ
+pairAt a i = lane a (8 * (i / 8) + pairPlace (i % 8))
+
+pair-is : (k : ℕ) → k < 8 → 4 * (k / 4) + 2 * (k % 2) + k / 2 % 2 ≡ pairPlace k
+pair-is zero h = refl
+pair-is (suc zero) h = refl
+pair-is (suc (suc zero)) h = refl
+pair-is (suc (suc (suc zero))) h = refl
+pair-is (suc (suc (suc (suc zero)))) h = refl
+pair-is (suc (suc (suc (suc (suc zero))))) h = refl
+pair-is (suc (suc (suc (suc (suc (suc zero)))))) h = refl
+pair-is (suc (suc (suc (suc (suc (suc (suc zero))))))) h = refl
+pair-is (suc (suc (suc (suc (suc (suc (suc (suc k)))))))) h = absurd (omega arith)
+
+pub pair-place : (a : List ℤ) (r k : ℕ) → k < 8 → lane a (8 * r + (4 * (k / 4) + 2 * (k % 2) + k / 2 % 2)) ≡ pairAt a (8 * r + k)
+pair-place a r k h = rw (pair-is k h, row-of r k h, col-of r k h) refl
+
+-- both halves of each row
+abbrev pub foldAt : List ℤ → List ℤ → ℕ → ℤ
+foldAt lo hi i = pickZ (ltb (i % 8) 4) (lane lo (4 * (i / 8) + i % 8)) (lane hi (4 * (i / 8) + (7 - i % 8)))
+
+pub low-place : (lo hi : List ℤ) (r k : ℕ) → k < 4 → lane lo (4 * r + k) ≡ foldAt lo hi (8 * r + k)
+low-place lo hi r k h =
+    let l : k < 8 = omega arith in
+    rw (row-of r k l, col-of r k l, lt-ltb k 4 h) refl
+
+pub high-place : (lo hi : List ℤ) (r k : ℕ) → 4 ≤ k → k < 8 → lane hi (4 * r + (7 - k)) ≡ foldAt lo hi (8 * r + k)
+high-place lo hi r k h l = rw (row-of r k l, col-of r k l, le-ltb k 4 h) refl
 
 -- a lane: two sums E and O, joined, shifted and saturated
 pub lane-law : (op : ℤ → ℤ → ℤ) (shift : ℕ) {E O P S R e o : ℤ} → E ≡ e → O ≡ o → P ≡ op E O → S ≡ sraOf P shift → R ≡ sat16 S → R ≡ sat16 (sraOf (op e o) shift)

@@ -301,19 +301,9 @@ pub fn pair_up(a: [i16; 64]) -> [i16; 64]
 {
     let mut x = [0i16; 64];
     for r in 0..8 {
-        let o = 8 * r;
-        put_row(
-            &mut x,
-            o,
-            a[o],
-            a[o + 2],
-            a[o + 1],
-            a[o + 3],
-            a[o + 4],
-            a[o + 6],
-            a[o + 5],
-            a[o + 7],
-        );
+        for k in 0..8 {
+            x[8 * r + k] = a[8 * r + (4 * (k / 4) + 2 * (k % 2) + k / 2 % 2)];
+        }
     }
     x
 }
@@ -413,20 +403,13 @@ pub fn fold(lo: [i16; 32], hi: [i16; 32]) -> [i16; 64]
 {
     let mut w = [0i16; 64];
     for r in 0..8 {
-        let o = 8 * r;
-        let k = 4 * r;
-        put_row(
-            &mut w,
-            o,
-            lo[k],
-            lo[k + 1],
-            lo[k + 2],
-            lo[k + 3],
-            hi[k + 3],
-            hi[k + 2],
-            hi[k + 1],
-            hi[k],
-        );
+        for k in 0..8 {
+            w[8 * r + k] = if k < 4 {
+                lo[4 * r + k]
+            } else {
+                hi[4 * r + (7 - k)]
+            };
+        }
     }
     w
 }

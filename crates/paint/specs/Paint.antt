@@ -27,6 +27,10 @@ unfoldable pub storeBlock : ℕ → (ℕ → ℕ) → List ℕ → List ℕ
 storeBlock stride samples rows =
     over (λ n x. pickN (both (ltb (n % stride) 8) (ltb (n / stride) 8)) (samples (n / stride * 8 + n % stride)) x) 0 rows
 
+-- four samples, stored from `at` on
+abbrev pub putFour : List ℕ → ℕ → ℕ → ℕ → ℕ → ℕ → List ℕ
+putFour l at a b c d = set (set (set (set l at a) (at + 1) b) (at + 2) c) (at + 3) d
+
 -- eight samples of p, those from o on, stored from `at` on
 abbrev pub putRow : List ℕ → ℕ → List ℕ → ℕ → List ℕ
 putRow l at p o =

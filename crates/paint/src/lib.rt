@@ -2,8 +2,30 @@
 ghost use mathlib.Core.Path.{_≡_};
 ghost use Prim.Native.Nat.{_+_, _*_, _≤_};
 ghost use lib.ListN.{length};
-ghost use Rattle.paint.specs.Paint.{storeBlock, sampleAt, putRow};
+ghost use Rattle.paint.specs.Paint.{storeBlock, sampleAt, putFour, putRow};
 ghost use Rattle.paint.specs.Samples.{flatSample};
+
+// Four samples, stored from `at` on.
+fn four8(rows: &mut [u8], at: usize, a: u8, b: u8, c: u8, d: u8)
+    requires { ⌜ at + 4 ≤ length (now rows) ⌝ }
+    ensures { λ _. ⌜ now (rows .exit) ≡ putFour (now (rows .entry)) at a b c d ⌝ }
+{
+    rows[at] = a;
+    rows[at + 1] = b;
+    rows[at + 2] = c;
+    rows[at + 3] = d;
+}
+
+// The same at 16 bits.
+fn four16(rows: &mut [u16], at: usize, a: u16, b: u16, c: u16, d: u16)
+    requires { ⌜ at + 4 ≤ length (now rows) ⌝ }
+    ensures { λ _. ⌜ now (rows .exit) ≡ putFour (now (rows .entry)) at a b c d ⌝ }
+{
+    rows[at] = a;
+    rows[at + 1] = b;
+    rows[at + 2] = c;
+    rows[at + 3] = d;
+}
 
 // Eight samples of the block, those from o on, stored from `at` on. All are read before one is stored: so they move as one word.
 pub fn put8(rows: &mut [u8], at: usize, p: &[u8; 64], o: usize)
@@ -18,14 +40,8 @@ pub fn put8(rows: &mut [u8], at: usize, p: &[u8; 64], o: usize)
     let f = p[o + 5];
     let g = p[o + 6];
     let h = p[o + 7];
-    rows[at] = a;
-    rows[at + 1] = b;
-    rows[at + 2] = c;
-    rows[at + 3] = d;
-    rows[at + 4] = e;
-    rows[at + 5] = f;
-    rows[at + 6] = g;
-    rows[at + 7] = h;
+    four8(rows, at, a, b, c, d);
+    four8(rows, at + 4, e, f, g, h);
 }
 
 // The same at 16 bits.
@@ -41,14 +57,8 @@ pub fn put16(rows: &mut [u16], at: usize, p: &[u16; 64], o: usize)
     let f = p[o + 5];
     let g = p[o + 6];
     let h = p[o + 7];
-    rows[at] = a;
-    rows[at + 1] = b;
-    rows[at + 2] = c;
-    rows[at + 3] = d;
-    rows[at + 4] = e;
-    rows[at + 5] = f;
-    rows[at + 6] = g;
-    rows[at + 7] = h;
+    four16(rows, at, a, b, c, d);
+    four16(rows, at + 4, e, f, g, h);
 }
 
 // Stores the 8 by 8 samples of a block into the rows from its corner on.

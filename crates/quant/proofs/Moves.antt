@@ -12,32 +12,29 @@ use mir.Facts.{toZ-ofZ}
 use Rattle.scalar.proofs.Laws.{back}
 use Rattle.scalar.specs.Tab.{tabFrom}
 use Rattle.tables.specs.Zigzag.{zigzag}
-use Rattle.quant.specs.Quantise.{coefficient, eightOf, scanOf}
+use Rattle.quant.specs.Quantise.{coefficient, fourOf, eightOf, scanOf}
 
-eight-sets : (l : List ℤ) (at : ℕ) {a0 a1 a2 a3 a4 a5 a6 a7 b0 b1 b2 b3 b4 b5 b6 b7 : ℤ}
-    → b0 ≡ a0 → b1 ≡ a1 → b2 ≡ a2 → b3 ≡ a3 → b4 ≡ a4 → b5 ≡ a5 → b6 ≡ a6 → b7 ≡ a7
-    → set (set (set (set (set (set (set (set l at b0) (at + 1) b1) (at + 2) b2) (at + 3) b3) (at + 4) b4) (at + 5) b5) (at + 6) b6) (at + 7) b7
-    ≡ sets l at (a0 ∷ a1 ∷ a2 ∷ a3 ∷ a4 ∷ a5 ∷ a6 ∷ a7 ∷ [])
-eight-sets l at e0 e1 e2 e3 e4 e5 e6 e7 =
+four-sets : (l : List ℤ) (at : ℕ) {a0 a1 a2 a3 b0 b1 b2 b3 : ℤ} → b0 ≡ a0 → b1 ≡ a1 → b2 ≡ a2 → b3 ≡ a3
+    → set (set (set (set l at b0) (at + 1) b1) (at + 2) b2) (at + 3) b3 ≡ sets l at (a0 ∷ a1 ∷ a2 ∷ a3 ∷ [])
+four-sets l at e0 e1 e2 e3 =
     let p1 : at + 1 ≡ suc at = omega arith in
     let p2 : at + 2 ≡ suc (suc at) = omega arith in
     let p3 : at + 3 ≡ suc (suc (suc at)) = omega arith in
-    let p4 : at + 4 ≡ suc (suc (suc (suc at))) = omega arith in
-    let p5 : at + 5 ≡ suc (suc (suc (suc (suc at)))) = omega arith in
-    let p6 : at + 6 ≡ suc (suc (suc (suc (suc (suc at))))) = omega arith in
-    let p7 : at + 7 ≡ suc (suc (suc (suc (suc (suc (suc at)))))) = omega arith in
-    rw (p1, p2, p3, p4, p5, p6, p7, e0, e1, e2, e3, e4, e5, e6, e7) refl
+    rw (p1, p2, p3, e0, e1, e2, e3) refl
 
 -- the same, each value read back from its bits
-pub eight-moved : (l n : List ℤ) (at i0 i1 i2 i3 i4 i5 i6 i7 : ℕ)
+pub four-moved : (l n : List ℤ) (at i0 i1 i2 i3 : ℕ)
     → SFits w16 (coefficient n i0) → SFits w16 (coefficient n i1) → SFits w16 (coefficient n i2) → SFits w16 (coefficient n i3)
-    → SFits w16 (coefficient n i4) → SFits w16 (coefficient n i5) → SFits w16 (coefficient n i6) → SFits w16 (coefficient n i7)
-    → set (set (set (set (set (set (set (set l at (back w16 (coefficient n i0))) (at + 1) (back w16 (coefficient n i1))) (at + 2) (back w16 (coefficient n i2)))
-    (at + 3) (back w16 (coefficient n i3))) (at + 4) (back w16 (coefficient n i4))) (at + 5) (back w16 (coefficient n i5))) (at + 6) (back w16 (coefficient n i6)))
-    (at + 7) (back w16 (coefficient n i7))
-    ≡ sets l at (eightOf n i0 i1 i2 i3 i4 i5 i6 i7)
-eight-moved l n at i0 i1 i2 i3 i4 i5 i6 i7 h0 h1 h2 h3 h4 h5 h6 h7 =
-    eight-sets l at (toZ-ofZ h0) (toZ-ofZ h1) (toZ-ofZ h2) (toZ-ofZ h3) (toZ-ofZ h4) (toZ-ofZ h5) (toZ-ofZ h6) (toZ-ofZ h7)
+    → set (set (set (set l at (back w16 (coefficient n i0))) (at + 1) (back w16 (coefficient n i1))) (at + 2) (back w16 (coefficient n i2))) (at + 3) (back w16 (coefficient n i3))
+    ≡ sets l at (fourOf n i0 i1 i2 i3)
+four-moved l n at i0 i1 i2 i3 h0 h1 h2 h3 = four-sets l at (toZ-ofZ h0) (toZ-ofZ h1) (toZ-ofZ h2) (toZ-ofZ h3)
+
+-- two times four
+pub eight-moved : (l n : List ℤ) (at i0 i1 i2 i3 i4 i5 i6 i7 : ℕ) {m r : List ℤ} → m ≡ sets l at (fourOf n i0 i1 i2 i3) → r ≡ sets m (at + 4) (fourOf n i4 i5 i6 i7)
+    → r ≡ sets l at (eightOf n i0 i1 i2 i3 i4 i5 i6 i7)
+eight-moved l n at i0 i1 i2 i3 i4 i5 i6 i7 e f =
+    let p : at + 4 ≡ suc (suc (suc (suc at))) = omega arith in
+    f ∙ rw (e, p) refl
 
 rows : (n : List ℤ) →
     sets (sets (sets (sets (sets (sets (sets (sets (replicate 64 (pos 0)) 0 (eightOf n 0 1 8 16 9 2 3 10)) 8 (eightOf n 17 24 32 25 18 11 4 5))

@@ -10,7 +10,7 @@ ghost use Rattle.scalar.specs.Scalar.{mulloOf, sraOf};
 ghost use Rattle.tables.specs.Divisor.{divisorsOf};
 ghost use Rattle.tables.specs.Reciprocal.{high, twoHigh};
 ghost use Rattle.tables.specs.Entries.{encodeOf};
-ghost use Rattle.quant.specs.Quantise.{eightOf, withSign, quantiseOf, scanOf, dequantiseBy};
+ghost use Rattle.quant.specs.Quantise.{fourOf, eightOf, withSign, quantiseOf, scanOf, dequantiseBy};
 
 // The magnitude of x: 32768 for -32768.
 pub fn magnitude(x: i16) -> u16
@@ -56,6 +56,17 @@ pub fn quant(w: [i16; 64], preset: usize, k: &[u16; 192]) -> [i16; 64]
     q
 }
 
+// Four moves: the elements of n at i0 to i3 go to z from `at` on.
+fn four(z: &mut [i16; 64], at: usize, n: &[i16; 64], i0: usize, i1: usize, i2: usize, i3: usize)
+    requires { ⌜ (at ≤ 60) × ((i0 < 64) × ((i1 < 64) × ((i2 < 64) × (i3 < 64)))) ⌝ }
+    ensures { λ r. ⌜ now (z .exit) ≡ sets (now (z .entry)) at (fourOf (now (n .entry)) i0 i1 i2 i3) ⌝ }
+{
+    z[at] = n[i0];
+    z[at + 1] = n[i1];
+    z[at + 2] = n[i2];
+    z[at + 3] = n[i3];
+}
+
 // Eight moves: the elements of n at i0 to i7 go to z from `at` on.
 fn eight(
     z: &mut [i16; 64],
@@ -73,14 +84,8 @@ fn eight(
     requires { ⌜ (at ≤ 56) × ((i0 < 64) × ((i1 < 64) × ((i2 < 64) × ((i3 < 64) × ((i4 < 64) × ((i5 < 64) × ((i6 < 64) × (i7 < 64)))))))) ⌝ }
     ensures { λ r. ⌜ now (z .exit) ≡ sets (now (z .entry)) at (eightOf (now (n .entry)) i0 i1 i2 i3 i4 i5 i6 i7) ⌝ }
 {
-    z[at] = n[i0];
-    z[at + 1] = n[i1];
-    z[at + 2] = n[i2];
-    z[at + 3] = n[i3];
-    z[at + 4] = n[i4];
-    z[at + 5] = n[i5];
-    z[at + 6] = n[i6];
-    z[at + 7] = n[i7];
+    four(z, at, n, i0, i1, i2, i3);
+    four(z, at + 4, n, i4, i5, i6, i7);
 }
 
 // The block in scan order.

@@ -1,3 +1,4 @@
 pub mod Laws
 pub mod Fill
+pub mod InRows
 pub mod Examples
