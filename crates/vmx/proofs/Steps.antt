@@ -9,7 +9,7 @@ use Rattle.slice.specs.Calls.{Coded}
 use Rattle.encplane.specs.Coding.{settings, plane}
 use Rattle.encslice.specs.SliceCoding.{rows}
 use Rattle.encoder.specs.Answers.{buffers, positions}
-use Rattle.vmx.specs.Planes.{codedAs}
+use Rattle.plane_outs.specs.Planes.{codedAs}
 use Rattle.vmx.proofs.coding.vmx_encode_plane8.Reads as encode-plane8
 use Rattle.vmx.proofs.coding.vmx_encode_plane10.Reads as encode-plane10
 use Rattle.vmx.proofs.coding.vmx_encode_slice8.Reads as encode-slice8

@@ -4,10 +4,9 @@ use mathlib.Core.List.{List, [], _∷_}
 use Prim.Native.Nat.{ℕ, _*_}
 use lib.ListN.{take, drop}
 use Rattle.ask.specs.Ask.{Answer, refused, accepted, asked}
-use Rattle.layout.specs.Geometry.{ImageRow, padding, row}
 use Rattle.builder.specs.Build.{Build}
 use Rattle.shown.specs.Shown.{shownQuestions, sliceSamples, wasAccepted, picked}
-use Rattle.vmx.specs.Outs.{isOn}
+use Rattle.frame_outs.specs.Outs.{isOn}
 
 -- the builder's state out of the numbers that the caller holds
 abbrev pub stateOf : ℕ → ℕ → ℕ → ℕ → ℕ → ℕ → Build
@@ -30,13 +29,3 @@ shownAt stride slice verdict new held =
 abbrev pub partOf : Answer ShownAt → List ℕ → List ℕ → List ℕ
 partOf (refused n) new held = []
 partOf (accepted s) new held = take (s .size) (drop (s .offset) (picked (s .fromNew) new held))
-
--- whether a coded row is a row of the image
-abbrev pub isImageRow : ImageRow → Bool
-isImageRow padding = false
-isImageRow (row r) = true
-
--- that row, or what stood in the place lent for it
-abbrev pub rowLeft : ImageRow → ℕ → ℕ
-rowLeft padding was = was
-rowLeft (row r) was = r

@@ -1,3 +1,1 @@
-pub mod Outs
 pub mod Frames
-pub mod Planes

@@ -2,34 +2,13 @@
 //
 // A call answers document 01's number, 0 where it is accepted. The positions are read from the places lent for them and left
 // there: behind what was written, or as they were given. A refused call leaves both buffers as they were.
-use encoder::CodeAnswer;
 ghost use mathlib.Core.Path.{_≡_};
-ghost use mathlib.Core.List.{List};
-ghost use Prim.Native.Nat.{ℕ};
 ghost use Rattle.slice.specs.Arguments.{eight, ten};
 ghost use Rattle.slice.specs.Calls.{encodePlane, encodeSlice};
 ghost use Rattle.encplane.specs.Coding.{settings, plane};
 ghost use Rattle.encslice.specs.SliceCoding.{rows};
-ghost use Rattle.encoder.specs.Answers.{buffers, positions, answered};
-ghost use Rattle.vmx.specs.Planes.{codedAs};
-
-// The number of an answer; its positions go into the places lent for them.
-fn hand_back(answer: CodeAnswer, dc_at: &mut usize, ac_at: &mut usize) -> u32
-    ensures { λ r. ⌜ ((dcs : List ℕ) (acs : List ℕ) → codedAs r (now («dc_at» .exit)) (now («ac_at» .exit)) dcs acs ≡ answered answer dcs acs) ⌝ }
-{
-    match answer {
-        CodeAnswer::Refused(number, d0, a0) => {
-            *dc_at = d0;
-            *ac_at = a0;
-            number
-        }
-        CodeAnswer::Accepted(d1, a1) => {
-            *dc_at = d1;
-            *ac_at = a1;
-            0
-        }
-    }
-}
+ghost use Rattle.encoder.specs.Answers.{buffers, positions};
+ghost use Rattle.plane_outs.specs.Planes.{codedAs};
 
 // Codes an 8-bit plane.
 #[no_mangle]
@@ -49,7 +28,7 @@ pub extern "C" fn vmx_encode_plane8(
     let d = *dc_at;
     let a = *ac_at;
     let r = encoder::encode_plane8(rows, stride, place, preset, shift, dc, d, ac, a);
-    hand_back(r, dc_at, ac_at)
+    plane_outs::coded_out(r, dc_at, ac_at)
 }
 
 // Codes a 10-bit plane.
@@ -70,7 +49,7 @@ pub extern "C" fn vmx_encode_plane10(
     let d = *dc_at;
     let a = *ac_at;
     let r = encoder::encode_plane10(rows, stride, place, preset, shift, dc, d, ac, a);
-    hand_back(r, dc_at, ac_at)
+    plane_outs::coded_out(r, dc_at, ac_at)
 }
 
 // Codes the first `count` of four 8-bit planes, places 0 to 3, one behind the other.
@@ -113,7 +92,7 @@ pub extern "C" fn vmx_encode_slice8(
         ac,
         a,
     );
-    hand_back(coded, dc_at, ac_at)
+    plane_outs::coded_out(coded, dc_at, ac_at)
 }
 
 // Codes the first `count` of four 10-bit planes, places 0 to 3, one behind the other.
@@ -156,5 +135,5 @@ pub extern "C" fn vmx_encode_slice10(
         ac,
         a,
     );
-    hand_back(answer, dc_at, ac_at)
+    plane_outs::coded_out(answer, dc_at, ac_at)
 }

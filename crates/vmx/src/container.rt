@@ -3,38 +3,18 @@
 // A call answers document 01's number, 0 where it is accepted, and leaves the rest of its answer in the places that its
 // caller lends for it. A refused call leaves them as they were; a refused part has offset 0 and length 0.
 use builder::Builder;
-use builder::HeaderAnswer;
 use builder::Shift;
-use builder::StreamAnswer;
-use layout::Kind;
 use layout::Layout;
-use layout::LayoutAnswer;
-use layout::RowAnswer;
-use parser::FrameAnswer;
-use parser::ViewAnswer;
 ghost use mathlib.Core.Path.{_≡_};
 ghost use Rattle.ask.specs.Ask.{numberIn};
 ghost use Rattle.layout.specs.Geometry.{Geometry, layoutOf, interlaceCapable, imageRowOf, previewWidth, previewHeight};
 ghost use Rattle.header.specs.Header.{FrameRead};
 ghost use Rattle.parser.specs.Frame.{parseOf, View, viewOf};
-ghost use Rattle.layout.specs.Views.{isAc};
 ghost use Rattle.tables.specs.Quality.{qualityPreset};
 ghost use Rattle.builder.specs.Build.{Built, headerOf, streamOf};
 ghost use Rattle.shown.specs.Shown.{timeOf};
-ghost use Rattle.vmx.specs.Outs.{left, isOn, flagOf};
-ghost use Rattle.vmx.specs.Frames.{stateOf, ShownAt, shownAt, isImageRow, rowLeft};
-
-fn flag(b: bool) -> u32
-    ensures { λ r. ⌜ r ≡ flagOf b ⌝ }
-{
-    if b { 1 } else { 0 }
-}
-
-fn kind_of(ac: u32) -> Kind
-    ensures { λ r. ⌜ isAc r ≡ isOn ac ⌝ }
-{
-    if 0 < ac { Kind::Ac } else { Kind::Dc }
-}
+ghost use Rattle.frame_outs.specs.Outs.{left, isOn, flagOf, isImageRow, rowLeft};
+ghost use Rattle.vmx.specs.Frames.{stateOf, ShownAt, shownAt};
 
 // The geometry of a frame size: strides in samples, stream limits in bytes.
 #[no_mangle]
@@ -50,18 +30,16 @@ pub extern "C" fn vmx_layout(
 ) -> u32
     ensures { λ r. ⌜ (r ≡ numberIn (layoutOf width height)) × (now («aligned_height» .exit) ≡ left (layoutOf width height) (now («aligned_height» .entry)) (λ (g : Geometry). g .alignedHeight)) × (now (slices .exit) ≡ left (layoutOf width height) (now (slices .entry)) (λ (g : Geometry). g .slices)) × (now (luma .exit) ≡ left (layoutOf width height) (now (luma .entry)) (λ (g : Geometry). g .luma)) × (now (chroma .exit) ≡ left (layoutOf width height) (now (chroma .entry)) (λ (g : Geometry). g .chroma)) × (now («max_dc_len» .exit) ≡ left (layoutOf width height) (now («max_dc_len» .entry)) (λ (g : Geometry). g .maxDcLen)) × (now («max_ac_len» .exit) ≡ left (layoutOf width height) (now («max_ac_len» .entry)) (λ (g : Geometry). g .maxAcLen)) ⌝ }
 {
-    match Layout::new(width, height) {
-        LayoutAnswer::Refused(x) => x,
-        LayoutAnswer::Fits(l) => {
-            *aligned_height = l.aligned_height;
-            *slices = l.slices;
-            *luma = l.luma;
-            *chroma = l.chroma;
-            *max_dc_len = l.max_dc_len;
-            *max_ac_len = l.max_ac_len;
-            0
-        }
-    }
+    let r = Layout::new(width, height);
+    frame_outs::layout_out(
+        r,
+        aligned_height,
+        slices,
+        luma,
+        chroma,
+        max_dc_len,
+        max_ac_len,
+    )
 }
 
 // Whether a frame of this height is interlaced when it says so: 1 or 0.
@@ -69,7 +47,7 @@ pub extern "C" fn vmx_layout(
 pub extern "C" fn vmx_interlace_capable(height: usize) -> u32
     ensures { λ r. ⌜ r ≡ flagOf (interlaceCapable height) ⌝ }
 {
-    flag(layout::interlace_capable(height))
+    frame_outs::flag(layout::interlace_capable(height))
 }
 
 // Whether a coded row is a row of the image (1) or padding (0), and which one; of padding nothing is said.
@@ -77,13 +55,8 @@ pub extern "C" fn vmx_interlace_capable(height: usize) -> u32
 pub extern "C" fn vmx_image_row(height: usize, r: usize, interlaced: u32, row: &mut usize) -> u32
     ensures { λ there. ⌜ (there ≡ flagOf (isImageRow (imageRowOf height r (isOn interlaced)))) × (now (row .exit) ≡ rowLeft (imageRowOf height r (isOn interlaced)) (now (row .entry))) ⌝ }
 {
-    match layout::image_row(height, r, 0 < interlaced) {
-        RowAnswer::Padding => 0,
-        RowAnswer::Row(i) => {
-            *row = i;
-            1
-        }
-    }
+    let a = layout::image_row(height, r, 0 < interlaced);
+    frame_outs::row_out(a, row)
 }
 
 // The quality that is in force for a quality asked, and its preset.
@@ -126,17 +99,8 @@ pub extern "C" fn vmx_parse(
 ) -> u32
     ensures { λ r. ⌜ (r ≡ numberIn (parseOf width height (now (frame .entry)))) × (now (interlaced .exit) ≡ left (parseOf width height (now (frame .entry))) (now (interlaced .entry)) (λ (f : FrameRead). flagOf (f .interlaced))) × (now (quality .exit) ≡ left (parseOf width height (now (frame .entry))) (now (quality .entry)) (λ (f : FrameRead). f .quality)) × (now («dc_shift» .exit) ≡ left (parseOf width height (now (frame .entry))) (now («dc_shift» .entry)) (λ (f : FrameRead). f .dcShift)) × (now («header_len» .exit) ≡ left (parseOf width height (now (frame .entry))) (now («header_len» .entry)) (λ (f : FrameRead). f .headerLen)) × (now (ac .exit) ≡ left (parseOf width height (now (frame .entry))) (now (ac .entry)) (λ (f : FrameRead). flagOf (f .acThere))) ⌝ }
 {
-    match parser::parse(width, height, frame) {
-        FrameAnswer::Refused(x) => x,
-        FrameAnswer::Frame(h) => {
-            *interlaced = flag(h.interlaced);
-            *quality = h.quality as u32;
-            *dc_shift = h.dc_shift as u32;
-            *header_len = h.header_len;
-            *ac = flag(h.ac);
-            0
-        }
-    }
+    let r = parser::parse(width, height, frame);
+    frame_outs::frame_out(r, interlaced, quality, dc_shift, header_len, ac)
 }
 
 // Where the DC stream (ac 0) or the AC stream (any other) of a slice lies in the frame, and its length.
@@ -152,18 +116,9 @@ pub extern "C" fn vmx_stream(
 ) -> u32
     ensures { λ r. ⌜ (r ≡ numberIn (viewOf width height (now (frame .entry)) (isOn ac) slice)) × (now (offset .exit) ≡ left (viewOf width height (now (frame .entry)) (isOn ac) slice) 0 (λ (v : View). v .offset)) × (now (len .exit) ≡ left (viewOf width height (now (frame .entry)) (isOn ac) slice) 0 (λ (v : View). v .size)) ⌝ }
 {
-    match parser::view_at(width, height, frame, kind_of(ac), slice) {
-        ViewAnswer::Refused(x) => {
-            *offset = 0;
-            *len = 0;
-            x
-        }
-        ViewAnswer::Part(p, n) => {
-            *offset = p;
-            *len = n;
-            0
-        }
-    }
+    let kind = frame_outs::kind_of(ac);
+    let r = parser::view_at(width, height, frame, kind, slice);
+    frame_outs::view_out(r, offset, len)
 }
 
 // Writes a frame's header at `at`, and hands out the state in which the first DC stream has its turn.
@@ -185,7 +140,7 @@ pub extern "C" fn vmx_frame_start(
     ensures { λ r. ⌜ (r ≡ numberIn (headerOf width height (isOn interlaced) quality «dc_shift» (now (out .entry)) (now (at .entry)))) × (now (out .exit) ≡ left (headerOf width height (isOn interlaced) quality «dc_shift» (now (out .entry)) (now (at .entry))) (now (out .entry)) (λ (b : Built). b .bytes)) × (now (slices .exit) ≡ left (headerOf width height (isOn interlaced) quality «dc_shift» (now (out .entry)) (now (at .entry))) (now (slices .entry)) (λ (b : Built). b .state .slices)) × (now («max_dc_len» .exit) ≡ left (headerOf width height (isOn interlaced) quality «dc_shift» (now (out .entry)) (now (at .entry))) (now («max_dc_len» .entry)) (λ (b : Built). b .state .maxDcLen)) × (now («max_ac_len» .exit) ≡ left (headerOf width height (isOn interlaced) quality «dc_shift» (now (out .entry)) (now (at .entry))) (now («max_ac_len» .entry)) (λ (b : Built). b .state .maxAcLen)) × (now («ac_turn» .exit) ≡ left (headerOf width height (isOn interlaced) quality «dc_shift» (now (out .entry)) (now (at .entry))) (now («ac_turn» .entry)) (λ (b : Built). flagOf (b .state .acTurn))) × (now (next .exit) ≡ left (headerOf width height (isOn interlaced) quality «dc_shift» (now (out .entry)) (now (at .entry))) (now (next .entry)) (λ (b : Built). b .state .next)) × (now (at .exit) ≡ left (headerOf width height (isOn interlaced) quality «dc_shift» (now (out .entry)) (now (at .entry))) (now (at .entry)) (λ (b : Built). b .state .at)) ⌝ }
 {
     let start = *at;
-    match builder::start_frame(
+    let r = builder::start_frame(
         width,
         height,
         0 < interlaced,
@@ -193,18 +148,8 @@ pub extern "C" fn vmx_frame_start(
         Shift::Named(dc_shift),
         out,
         start,
-    ) {
-        HeaderAnswer::Refused(x) => x,
-        HeaderAnswer::Started(b) => {
-            *slices = b.slices;
-            *max_dc_len = b.max_dc_len;
-            *max_ac_len = b.max_ac_len;
-            *ac_turn = flag(b.ac_turn);
-            *next = b.next;
-            *at = b.at;
-            0
-        }
-    }
+    );
+    frame_outs::header_out(r, slices, max_dc_len, max_ac_len, ac_turn, next, at)
 }
 
 // Puts the DC stream (ac 0) or the AC stream (any other) of a slice behind what was written.
@@ -223,7 +168,7 @@ pub extern "C" fn vmx_frame_put(
 ) -> u32
     ensures { λ r. ⌜ (r ≡ numberIn (streamOf (stateOf slices «max_dc_len» «max_ac_len» (now («ac_turn» .entry)) (now (next .entry)) (now (at .entry))) (isOn ac) slice (now (stream .entry)) (now (out .entry)))) × (now (out .exit) ≡ left (streamOf (stateOf slices «max_dc_len» «max_ac_len» (now («ac_turn» .entry)) (now (next .entry)) (now (at .entry))) (isOn ac) slice (now (stream .entry)) (now (out .entry))) (now (out .entry)) (λ (b : Built). b .bytes)) × (now («ac_turn» .exit) ≡ left (streamOf (stateOf slices «max_dc_len» «max_ac_len» (now («ac_turn» .entry)) (now (next .entry)) (now (at .entry))) (isOn ac) slice (now (stream .entry)) (now (out .entry))) (now («ac_turn» .entry)) (λ (b : Built). flagOf (b .state .acTurn))) × (now (next .exit) ≡ left (streamOf (stateOf slices «max_dc_len» «max_ac_len» (now («ac_turn» .entry)) (now (next .entry)) (now (at .entry))) (isOn ac) slice (now (stream .entry)) (now (out .entry))) (now (next .entry)) (λ (b : Built). b .state .next)) × (now (at .exit) ≡ left (streamOf (stateOf slices «max_dc_len» «max_ac_len» (now («ac_turn» .entry)) (now (next .entry)) (now (at .entry))) (isOn ac) slice (now (stream .entry)) (now (out .entry))) (now (at .entry)) (λ (b : Built). b .state .at)) ⌝ }
 {
-    let kind = kind_of(ac);
+    let kind = frame_outs::kind_of(ac);
     let turn = 0 < *ac_turn;
     let first = *next;
     let start = *at;
@@ -235,15 +180,8 @@ pub extern "C" fn vmx_frame_put(
         next: first,
         at: start,
     };
-    match builder::put_stream(b, kind, slice, stream, out) {
-        StreamAnswer::Refused(x, _) => x,
-        StreamAnswer::Next(s) => {
-            *ac_turn = flag(s.ac_turn);
-            *next = s.next;
-            *at = s.at;
-            0
-        }
-    }
+    let r = builder::put_stream(b, kind, slice, stream, out);
+    frame_outs::stream_out(r, ac_turn, next, at)
 }
 
 // In which of two pictures of so many samples the slice's sixteen rows lie (1 the new one, 0 the held one), and where.
@@ -268,7 +206,7 @@ pub extern "C" fn vmx_shown_rows(
         return x;
     }
     let n = 16 * stride;
-    *from_new = flag(verdict == 0);
+    *from_new = frame_outs::from_new(verdict);
     *offset = slice * n;
     *len = n;
     0

@@ -4,7 +4,7 @@
 // call leaves it, and the bytes lent for the answer, as they were.
 ghost use mathlib.Core.Path.{_≡_};
 ghost use Rattle.slice.specs.Previews.{preview, blockReport};
-ghost use Rattle.vmx.specs.Planes.{previewedAs, reportedAs};
+ghost use Rattle.plane_outs.specs.Planes.{previewedAs, reportedAs};
 
 // One byte a block, two output rows, from the plane's DC stream.
 #[no_mangle]
@@ -20,13 +20,8 @@ pub extern "C" fn vmx_preview(
     ensures { λ r. ⌜ previewedAs r (now («dc_at» .exit)) (now (upper .exit)) (now (lower .exit)) ≡ preview shift place stride (now (upper .entry)) (now (lower .entry)) (now (dc .entry)) (now («dc_at» .entry)) ⌝ }
 {
     let d = *dc_at;
-    match preview::preview(shift, place, stride, upper, lower, dc, d) {
-        preview::PlaneEnd::Refused(n) => n,
-        preview::PlaneEnd::At(p) => {
-            *dc_at = p;
-            0
-        }
-    }
+    let r = preview::preview(shift, place, stride, upper, lower, dc, d);
+    plane_outs::preview_out(r, dc_at)
 }
 
 // One byte a block in coding order, 1 where no AC symbol is read for it, from the plane's AC stream.
@@ -40,11 +35,6 @@ pub extern "C" fn vmx_block_report(
     ensures { λ r. ⌜ reportedAs r (now («ac_at» .exit)) (now (report .exit)) ≡ blockReport stride (now (report .entry)) (now (ac .entry)) (now («ac_at» .entry)) ⌝ }
 {
     let a = *ac_at;
-    match report::block_report(stride, report, ac, a) {
-        report::PlaneEnd::Refused(n) => n,
-        report::PlaneEnd::At(q) => {
-            *ac_at = q;
-            0
-        }
-    }
+    let r = report::block_report(stride, report, ac, a);
+    plane_outs::report_out(r, ac_at)
 }

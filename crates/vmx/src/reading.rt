@@ -2,35 +2,14 @@
 //
 // A call answers document 01's number, 0 where it is accepted. The positions are read from the places lent for them and left
 // there: behind what was read, or as they were given. A refused call leaves every sample as it was.
-use decoder::ReadAnswer;
 ghost use mathlib.Core.Path.{_≡_};
-ghost use mathlib.Core.List.{List, [], _∷_};
-ghost use Prim.Native.Nat.{ℕ};
+ghost use mathlib.Core.List.{[], _∷_};
 ghost use Rattle.slice.specs.Arguments.{eight, ten};
 ghost use Rattle.slice.specs.Calls.{decodePlane, decodeSlice};
 ghost use Rattle.encplane.specs.Coding.{settings, plane};
 ghost use Rattle.encslice.specs.SliceCoding.{rows};
 ghost use Rattle.encoder.specs.Answers.{buffers, positions};
-ghost use Rattle.decoder.specs.Answers.{answered};
-ghost use Rattle.vmx.specs.Planes.{decodedAs};
-
-// The number of an answer; its positions go into the places lent for them.
-fn hand_back(answer: ReadAnswer, dc_at: &mut usize, ac_at: &mut usize) -> u32
-    ensures { λ r. ⌜ ((lent : List (List ℕ)) → decodedAs r (now («dc_at» .exit)) (now («ac_at» .exit)) lent ≡ answered answer lent) ⌝ }
-{
-    match answer {
-        ReadAnswer::Refused(number, d0, a0) => {
-            *dc_at = d0;
-            *ac_at = a0;
-            number
-        }
-        ReadAnswer::Accepted(d1, a1) => {
-            *dc_at = d1;
-            *ac_at = a1;
-            0
-        }
-    }
-}
+ghost use Rattle.plane_outs.specs.Planes.{decodedAs};
 
 // Reads a plane of 8-bit samples into its rows.
 #[no_mangle]
@@ -50,7 +29,7 @@ pub extern "C" fn vmx_decode_plane8(
     let d = *dc_at;
     let a = *ac_at;
     let r = decoder::decode_plane8(rows, stride, place, preset, shift, dc, d, ac, a);
-    hand_back(r, dc_at, ac_at)
+    plane_outs::read_out(r, dc_at, ac_at)
 }
 
 // Reads a plane of 10-bit samples into its rows.
@@ -71,7 +50,7 @@ pub extern "C" fn vmx_decode_plane10(
     let d = *dc_at;
     let a = *ac_at;
     let r = decoder::decode_plane10(rows, stride, place, preset, shift, dc, d, ac, a);
-    hand_back(r, dc_at, ac_at)
+    plane_outs::read_out(r, dc_at, ac_at)
 }
 
 // Reads the first `count` of four planes of 8-bit samples, places 0 to 3, one behind the other.
@@ -114,7 +93,7 @@ pub extern "C" fn vmx_decode_slice8(
         ac,
         a,
     );
-    hand_back(read, dc_at, ac_at)
+    plane_outs::read_out(read, dc_at, ac_at)
 }
 
 // Reads the first `count` of four planes of 10-bit samples, places 0 to 3, one behind the other.
@@ -157,5 +136,5 @@ pub extern "C" fn vmx_decode_slice10(
         ac,
         a,
     );
-    hand_back(answer, dc_at, ac_at)
+    plane_outs::read_out(answer, dc_at, ac_at)
 }

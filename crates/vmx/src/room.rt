@@ -2,29 +2,9 @@
 //
 // A call answers document 01's number, 0 where it is accepted. The lengths go into the places lent for them; of a refused
 // call they are 0.
-use sizes::SizeAnswer;
 ghost use mathlib.Core.Path.{_≡_};
 ghost use Rattle.slice.specs.Previews.{planeSize, sliceSize};
-ghost use Rattle.sizes.specs.Answers.{sizeSays};
-ghost use Rattle.vmx.specs.Planes.{sizedAs};
-
-// The number of an answer; its lengths go into the places lent for them.
-fn hand_out(answer: SizeAnswer, dc_len: &mut usize, ac_len: &mut usize) -> u32
-    ensures { λ r. ⌜ sizedAs r (now («dc_len» .exit)) (now («ac_len» .exit)) ≡ sizeSays answer ⌝ }
-{
-    match answer {
-        SizeAnswer::Refused(number) => {
-            *dc_len = 0;
-            *ac_len = 0;
-            number
-        }
-        SizeAnswer::Sized(d, a) => {
-            *dc_len = d;
-            *ac_len = a;
-            0
-        }
-    }
-}
+ghost use Rattle.plane_outs.specs.Planes.{sizedAs};
 
 // Of one plane.
 #[no_mangle]
@@ -32,7 +12,7 @@ pub extern "C" fn vmx_plane_size(stride: usize, dc_len: &mut usize, ac_len: &mut
     ensures { λ r. ⌜ sizedAs r (now («dc_len» .exit)) (now («ac_len» .exit)) ≡ planeSize stride ⌝ }
 {
     let plane = sizes::plane_size(stride);
-    hand_out(plane, dc_len, ac_len)
+    plane_outs::size_out(plane, dc_len, ac_len)
 }
 
 // Of the first `count` of four planes together.
@@ -49,5 +29,5 @@ pub extern "C" fn vmx_slice_size(
     ensures { λ r. ⌜ sizedAs r (now («dc_len» .exit)) (now («ac_len» .exit)) ≡ sliceSize count stride0 stride1 stride2 stride3 ⌝ }
 {
     let slice = sizes::slice_size(count, stride0, stride1, stride2, stride3);
-    hand_out(slice, dc_len, ac_len)
+    plane_outs::size_out(slice, dc_len, ac_len)
 }

@@ -7,7 +7,7 @@ use Rattle.vmx.proofs.coding.vmx_encode_plane8.Tie as tie
 returns : tie.Need-returns
 returns c =
     let v = c .before .before .before .before .before .before .before in
-    c .hand-back .ensures _ _ ∙ v .encode-plane8 .ensures
+    c .coded-out .ensures _ _ ∙ v .encode-plane8 .ensures
 
 pub vmx-encode-plane8-spec : {M : Type 1} → statement M
 vmx-encode-plane8-spec =

@@ -1,7 +1,7 @@
--- `vmx::parser::vmx_interlace_capable`.
+-- `vmx::container::vmx_interlace_capable`.
 use borrow.Author.Needs.{needs}
 use mathlib.Core.Path.{_∙_, ap}
-use Rattle.vmx.specs.Outs.{flagOf}
+use Rattle.frame_outs.specs.Outs.{flagOf}
 use Rattle.vmx.proofs.container.vmx_interlace_capable.Statement.{statement}
 use Rattle.vmx.proofs.container.vmx_interlace_capable.Tie as tie
 

@@ -1,4 +1,4 @@
--- `vmx::parser::vmx_shown_rows`.
+-- `vmx::container::vmx_shown_rows`.
 use borrow.Author.Needs.{needs}
 use mathlib.Core.Path.{_≡_, refl, sym, _∙_}
 use native.Mathlib.Omega.{arith}
@@ -37,7 +37,7 @@ returns-2 c =
     let a = n .before .args in
     let z : n .shown-number .result ≡ 0 = omega (arith, t .if1 .left) in
     rw (shown-there (a .stride) (a .slice) (a .verdict) (a .new) (a .held) (sym (n .shown-number .ensures) ∙ z))
-    (refl, c .flag .ensures, refl, refl)
+    (refl, c .from-new .ensures, refl, refl)
 
 pub vmx-shown-rows-spec : {M : Type 1} → statement M
 vmx-shown-rows-spec =

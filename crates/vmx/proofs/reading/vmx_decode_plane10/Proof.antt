@@ -7,7 +7,7 @@ use Rattle.vmx.proofs.reading.vmx_decode_plane10.Tie as tie
 returns : tie.Need-returns
 returns c =
     let v = c .before .before .before .before .before in
-    c .hand-back .ensures _ ∙ v .decode-plane10 .ensures
+    c .read-out .ensures _ ∙ v .decode-plane10 .ensures
 
 pub vmx-decode-plane10-spec : {M : Type 1} → statement M
 vmx-decode-plane10-spec =

@@ -7,7 +7,7 @@ use Rattle.vmx.proofs.reading.vmx_decode_plane8.Tie as tie
 returns : tie.Need-returns
 returns c =
     let v = c .before .before .before .before .before in
-    c .hand-back .ensures _ ∙ v .decode-plane8 .ensures
+    c .read-out .ensures _ ∙ v .decode-plane8 .ensures
 
 pub vmx-decode-plane8-spec : {M : Type 1} → statement M
 vmx-decode-plane8-spec =

@@ -7,7 +7,7 @@ use Rattle.vmx.proofs.reading.vmx_decode_slice10.Tie as tie
 returns : tie.Need-returns
 returns c =
     let v = c .before .before .before .before .before .before .before .before .before .before .before in
-    c .hand-back .ensures _ ∙ v .decode-slice10 .ensures
+    c .read-out .ensures _ ∙ v .decode-slice10 .ensures
 
 pub vmx-decode-slice10-spec : {M : Type 1} → statement M
 vmx-decode-slice10-spec =

@@ -7,7 +7,7 @@ use Rattle.vmx.proofs.reading.vmx_decode_slice8.Tie as tie
 returns : tie.Need-returns
 returns c =
     let v = c .before .before .before .before .before .before .before .before .before .before .before in
-    c .hand-back .ensures _ ∙ v .decode-slice8 .ensures
+    c .read-out .ensures _ ∙ v .decode-slice8 .ensures
 
 pub vmx-decode-slice8-spec : {M : Type 1} → statement M
 vmx-decode-slice8-spec =

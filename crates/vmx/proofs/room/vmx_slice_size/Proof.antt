@@ -5,7 +5,7 @@ use Rattle.vmx.proofs.room.vmx_slice_size.Statement.{statement}
 use Rattle.vmx.proofs.room.vmx_slice_size.Tie as tie
 
 returns : tie.Need-returns
-returns c = c .hand-out .ensures ∙ c .before .before .before .slice-size .ensures
+returns c = c .size-out .ensures ∙ c .before .before .before .slice-size .ensures
 
 pub vmx-slice-size-spec : {M : Type 1} → statement M
 vmx-slice-size-spec = tie.close (tie.spec (λ c κs. search needs) (λ c κs. search needs) returns)

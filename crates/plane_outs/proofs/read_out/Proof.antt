@@ -1,0 +1,23 @@
+-- `plane_outs::read_out`.
+use borrow.Author.Needs.{needs}
+use mathlib.Core.Path.{_≡_, sym, ap}
+use Rattle.decoder.specs.Answers.{answered}
+use Rattle.decoder.specs.declared.ReadAnswer.{ReadAnswer}
+use Rattle.decoder.specs.declared.ReadAnswer.the-variants as answer
+use Rattle.plane_outs.proofs.read_out.Statement.{statement}
+use Rattle.plane_outs.proofs.read_out.Tie as tie
+
+returns : tie.Need-returns
+returns c lent =
+    let g = c .before .answer .given in
+    let e : answer.Refused (g .0 .0) (g .0 .1 .0) (g .0 .1 .1 .0) ≡ c .before .before .before .args .answer = sym (g .1) in
+    ap (λ (x : ReadAnswer). answered x lent) e
+
+returns-2 : tie.Need-returns-2
+returns-2 c lent =
+    let g = c .before .answer2 .given in
+    let e : answer.Accepted (g .0 .0) (g .0 .1 .0) ≡ c .before .before .before .args .answer = sym (g .1) in
+    ap (λ (x : ReadAnswer). answered x lent) e
+
+pub read-out-spec : {M : Type 1} → statement M
+read-out-spec = tie.close (tie.spec (λ c. search needs) (λ c. search needs) returns returns-2)
