@@ -16,6 +16,7 @@ ghost use Rattle.header.specs.Header.{FrameRead};
 ghost use Rattle.parser.specs.Frame.{View};
 ghost use Rattle.layout.specs.Views.{layoutSays, rowSays, isAc};
 ghost use Rattle.parser.specs.Views.{frameSays, viewSays};
+ghost use Rattle.tables.specs.Quality.{qualityPreset};
 ghost use Rattle.builder.specs.Build.{Built};
 ghost use Rattle.builder.specs.Views.{HeaderCall, StreamCall};
 ghost use Rattle.builder.specs.declared.Builder.{Builder};
@@ -80,6 +81,15 @@ pub fn row_out(answer: RowAnswer, row: &mut usize) -> u32
             1
         }
     }
+}
+
+// Of a quality that is asked: the one in force, and its preset.
+pub fn quality_out(quality: u8, kept: &mut u8, preset: &mut usize)
+    ensures { λ _. ⌜ (now (kept .exit) ≡ qualityPreset quality .quality) × (now (preset .exit) ≡ qualityPreset quality .index) ⌝ }
+{
+    let p = tables::quality::quality_preset(quality);
+    *kept = p.quality;
+    *preset = p.index;
 }
 
 // Of a frame's header.

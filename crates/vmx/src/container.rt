@@ -64,9 +64,7 @@ pub extern "C" fn vmx_image_row(height: usize, r: usize, interlaced: u32, row: &
 pub extern "C" fn vmx_quality_preset(quality: u8, kept: &mut u8, preset: &mut usize)
     ensures { λ _. ⌜ (now (kept .exit) ≡ qualityPreset quality .quality) × (now (preset .exit) ≡ qualityPreset quality .index) ⌝ }
 {
-    let p = tables::quality::quality_preset(quality);
-    *kept = p.quality;
-    *preset = p.index;
+    frame_outs::quality_out(quality, kept, preset);
 }
 
 // The width of the 1/8 preview.
