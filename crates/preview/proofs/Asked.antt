@@ -1,25 +1,20 @@
 -- The questions of the preview, and the answer that they lead to.
-use mathlib.Core.Path.{_≡_, refl, sym, ap, ap₂, _∙_}
+use mathlib.Core.Path.{_≡_, refl, sym, ap, _∙_}
 use mathlib.Core.Bool.{Bool, true, false, _&&_}
-use mathlib.Core.List.{List, [], _∷_, _++_, map, append-nil}
+use mathlib.Core.List.{List}
 use Prim.Native.Nat.{ℕ, zero, suc, _+_, _-_, _*_, _/_, _%_, _≤_, _<_}
 use native.Mathlib.Omega.{arith}
 use lib.Dec.{leb, eqb}
-use lib.IntN.{ℤ, pos}
-use lib.ListN.{length, take, drop, replicate}
-use lib.Seq.{take-at, drop-at}
+use lib.ListN.{length, take, drop}
 use borrow.Author.Tests.{le-leb, lt-leb, leb-true, leb-false}
-use Rattle.ask.specs.Ask.{Answer, refused, accepted, firstNo}
-use Rattle.bits.specs.Bits.{bitAt, bytesFor}
+use Rattle.ask.specs.Ask.{Answer, accepted, firstNo}
+use Rattle.bits.specs.Bits.{bitAt}
 use Rattle.bits.specs.Lay.{lay}
-use Rattle.slice.specs.Arguments.{eight}
-use Rattle.slice.specs.ReadPlane.{DcStep, DcSteps, badSteps, dcSteps, readSteps, predicted}
-use Rattle.slice.specs.Plane.{blocksOf, level}
+use Rattle.slice.specs.ReadPlane.{DcSteps, badSteps, dcSteps, readSteps}
+use Rattle.slice.specs.Plane.{blocksOf}
 use Rattle.slice.specs.Questions.{strideOk, previewQuestions}
-use Rattle.slice.specs.Previews.{Previewed, previewByte, previewBytes, previewedBy, preview}
-use Rattle.preview.specs.Row.{byteOf, goodSteps, stepList, bytesFrom, dcBit, inBytes, dcEnd, RowDone}
-use Rattle.preview.specs.declared.RowEnd.{RowEnd}
-use Rattle.preview.proofs.Steps.{none-bytes}
+use Rattle.slice.specs.Previews.{Previewed, previewBytes, previewedBy, preview}
+use Rattle.preview.specs.Row.{goodSteps, stepList, dcEnd, Stored}
 
 module _ (shift place stride : ℕ) (upper lower : List ℕ) (bytes at : ℕ) where
   abbrev F : ℕ
@@ -109,9 +104,9 @@ by-number : (m shift place stride at : ℕ) (upper lower : List ℕ) (x : DcStep
 by-number zero shift place stride at upper lower x e h = absurd (omega arith)
 by-number (suc m) shift place stride at upper lower x e h = ap (λ (k : ℕ). record { number = k; at = at; upper = upper; lower = lower }) e
 
-by-bad : (shift place stride at : ℕ) (upper lower : List ℕ) (x : DcSteps) {n : ℕ} → refused n ≡ dcEnd x
-    → record { number = n; at = at; upper = upper; lower = lower } ≡ previewedBy 0 shift place stride at upper lower x
-by-bad shift place stride at upper lower badSteps {n} e = let g : n ≡ 8 = cc in ap (λ (k : ℕ). record { number = k; at = at; upper = upper; lower = lower }) g
+by-bad : (shift place stride at : ℕ) (upper lower : List ℕ) (x : DcSteps) → goodSteps x ≡ false
+    → record { number = 8; at = at; upper = upper; lower = lower } ≡ previewedBy 0 shift place stride at upper lower x
+by-bad shift place stride at upper lower badSteps e = refl
 by-bad shift place stride at upper lower (dcSteps ts q) e = absurd (let k : _≡_ {A = ℕ} 0 1 = cc in omega arith)
 
 by-end : (shift place stride at : ℕ) (upper lower : List ℕ) (x : DcSteps) {q : ℕ} {u v : List ℕ} → accepted q ≡ dcEnd x
@@ -121,19 +116,6 @@ by-end : (shift place stride at : ℕ) (upper lower : List ℕ) (x : DcSteps) {q
 by-end shift place stride at upper lower badSteps e f g = absurd (let k : _≡_ {A = ℕ} 0 1 = cc in omega arith)
 by-end shift place stride at upper lower (dcSteps ts a) {q} {u} {v} e f g = cc
 
--- the bytes in the two forms
-pub good-end : (x : DcSteps) {q : ℕ} → accepted q ≡ dcEnd x → goodSteps x ≡ true
-good-end badSteps e = absurd (let z : _≡_ {A = ℕ} 0 1 = cc in omega arith)
-good-end (dcSteps ts q) e = refl
-
-pub byte-is : (place : ℕ) → previewByte place ≡ byteOf (level eight place)
-unfolding previewByte
-byte-is place = refl
-
-bytes-are : (shift place n : ℕ) (x : DcSteps) → previewBytes shift place n (stepList x) ≡ bytesFrom shift (level eight place) n x (pos 0)
-unfolding previewBytes
-bytes-are shift place n x = ap (λ (f : ℤ → ℕ). map f (predicted shift (pos 0) (stepList x) (replicate n (pos 0)))) (byte-is place)
-
 module _ (shift place stride : ℕ) (upper lower dc : List ℕ) (at : ℕ) where
   pub answer-no : {n : ℕ} → n ≡ firstNo (previewQuestions shift place stride upper lower (length dc) at) → 0 < n
       → record { number = n; at = at; upper = upper; lower = lower } ≡ preview shift place stride upper lower dc at
@@ -141,43 +123,12 @@ module _ (shift place stride : ℕ) (upper lower dc : List ℕ) (at : ℕ) where
   answer-no e h = by-number _ shift place stride at upper lower (readSteps (blocksOf stride) (bitAt dc) (8 * at)) e h
 
   module _ (y : firstNo (previewQuestions shift place stride upper lower (length dc) at) ≡ 0) where
-    pub answer-bad : {n : ℕ} → refused n ≡ dcEnd (readSteps (2 * (stride / 8)) (bitAt dc) (8 * at))
-        → record { number = n; at = at; upper = upper; lower = lower } ≡ preview shift place stride upper lower dc at
+    pub answer-bad : goodSteps (readSteps (2 * (stride / 8)) (bitAt dc) (8 * at)) ≡ false
+        → record { number = 8; at = at; upper = upper; lower = lower } ≡ preview shift place stride upper lower dc at
     unfolding preview
     answer-bad e = rw y (by-bad shift place stride at upper lower (readSteps (2 * (stride / 8)) (bitAt dc) (8 * at)) e)
 
-    answer-end : {q : ℕ} {u v : List ℕ} → accepted q ≡ dcEnd (readSteps (2 * (stride / 8)) (bitAt dc) (8 * at))
-        → u ≡ lay upper 0 (take (stride / 8) (previewBytes shift place (blocksOf stride) (stepList (readSteps (2 * (stride / 8)) (bitAt dc) (8 * at)))))
-        → v ≡ lay lower 0 (drop (stride / 8) (previewBytes shift place (blocksOf stride) (stepList (readSteps (2 * (stride / 8)) (bitAt dc) (8 * at)))))
+    pub answer-end : {q : ℕ} {u v : List ℕ} → Stored shift place (stride / 8) upper u lower v (readSteps (2 * (stride / 8)) (bitAt dc) (8 * at)) q
         → record { number = 0; at = q; upper = u; lower = v } ≡ preview shift place stride upper lower dc at
     unfolding preview
-    answer-end e f g = rw y (by-end shift place stride at upper lower (readSteps (2 * (stride / 8)) (bitAt dc) (8 * at)) e f g)
-
-    -- two rows, one behind the other
-    module _ {q : ℕ} (e : accepted q ≡ dcEnd (readSteps (2 * (stride / 8)) (bitAt dc) (8 * at))) {p : ℕ} (h : p ≡ 8 * at) where
-      twice : 2 * (stride / 8) ≡ stride / 8 + stride / 8
-      twice = omega arith
-
-      good-both : goodSteps (readSteps (stride / 8 + stride / 8) (bitAt dc) p) ≡ true
-      good-both =
-          ap₂ (λ (n m : ℕ). goodSteps (readSteps n (bitAt dc) m)) (sym twice) h ∙ good-end (readSteps (2 * (stride / 8)) (bitAt dc) (8 * at)) e
-
-      module _ {u v : List ℕ} {r t : RowEnd} (a : RowDone dc shift (level eight place) (stride / 8) p (pos 0) upper u r)
-          (b : RowDone dc shift (level eight place) (stride / 8) (r .c .pos) (r .last) lower v t) where
-        joined : previewBytes shift place (blocksOf stride) (stepList (readSteps (2 * (stride / 8)) (bitAt dc) (8 * at))) ≡ a .bytes ++ (b .bytes ++ [])
-        joined =
-            let w = stride / 8 in
-            let g : goodSteps (readSteps (w + 0) (bitAt dc) (r .c .pos)) ≡ true =
-            ap (λ (n : ℕ). goodSteps (readSteps n (bitAt dc) (r .c .pos))) (omega arith) ∙ a .good w good-both in
-            bytes-are shift place (2 * w) (readSteps (2 * w) (bitAt dc) (8 * at))
-            ∙ ap₂ (λ (n m : ℕ). bytesFrom shift (level eight place) n (readSteps n (bitAt dc) m) (pos 0)) twice (sym h)
-            ∙ a .rest w good-both
-            ∙ ap (λ (l : List ℕ). a .bytes ++ l)
-            (ap (λ (n : ℕ). bytesFrom shift (level eight place) n (readSteps n (bitAt dc) (r .c .pos)) (r .last)) (omega arith)
-            ∙ b .rest 0 g ∙ ap (λ (l : List ℕ). b .bytes ++ l) (none-bytes shift (level eight place) (bitAt dc) (t .c .pos) (t .last)))
-
-        pub answer-rows : record { number = 0; at = q; upper = u; lower = v } ≡ preview shift place stride upper lower dc at
-        answer-rows =
-            answer-end e
-            (a .stored ∙ ap (lay upper 0) (sym (ap (take (stride / 8)) joined ∙ take-at (a .bytes) (b .bytes ++ []) (stride / 8) (a .count))))
-            (b .stored ∙ ap (lay lower 0) (sym (ap (drop (stride / 8)) joined ∙ drop-at (a .bytes) (b .bytes ++ []) (stride / 8) (a .count) ∙ append-nil (b .bytes))))
+    answer-end s = rw y (by-end shift place stride at upper lower (readSteps (2 * (stride / 8)) (bitAt dc) (8 * at)) (s .end) (s .above) (s .below))

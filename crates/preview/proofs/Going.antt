@@ -20,7 +20,7 @@ use Rattle.bitreader.specs.declared.Got.{Got}
 use Rattle.slice.specs.ReadPlane.{readSteps, settle}
 use Rattle.preview.specs.Row.{stepOf, byteOf, goodSteps, bytesFrom, dcBit, RowDone}
 use Rattle.preview.specs.declared.RowEnd.{RowEnd}
-use Rattle.preview.proofs.Steps.{bit-next, steps-bad, good-next, bytes-next, none-bit, none-bytes}
+use Rattle.preview.proofs.Steps.{good-by, bit-next, steps-bad, some, bytes-next, none-bit}
 
 -- the cursor c stands at the first of the `left` codes still to be read, of n from the bit p on
 pub record Going (s : List ℕ) (p n : ℕ) (c : AcCursor) (left : ℕ) : Type 0 where
@@ -59,7 +59,7 @@ pub record Row (s : List ℕ) (shift : ℕ) (level : ℤ) (n p : ℕ) (before : 
   pub near : c .pos ≤ p + 112 * k
   pub rest : (m : ℕ) → goodSteps (readSteps (n + m) (bitAt s) p) ≡ true
       → bytesFrom shift level (n + m) (readSteps (n + m) (bitAt s) p) before ≡ bytes ++ bytesFrom shift level (n - k + m) (readSteps (n - k + m) (bitAt s) (c .pos)) last
-  pub good : (m : ℕ) → goodSteps (readSteps (n + m) (bitAt s) p) ≡ true → goodSteps (readSteps (n - k + m) (bitAt s) (c .pos)) ≡ true
+  pub ends : (m : ℕ) → goodSteps (readSteps (n + m) (bitAt s) p) ≡ true → dcBit (readSteps (n + m) (bitAt s) p) ≡ dcBit (readSteps (n - k + m) (bitAt s) (c .pos))
 
 module _ (s : List ℕ) (shift : ℕ) (level : ℤ) (n : ℕ) (before : ℤ) (out : List ℕ) (room : n ≤ length out) where
   pub row-start : (c : AcCursor) → At s c → SFits w16 before → Row s shift level n (c .pos) before out c before 0 out
@@ -73,7 +73,7 @@ module _ (s : List ℕ) (shift : ℕ) (level : ℤ) (n : ℕ) (before : ℤ) (ou
         fits = w;
         near = omega arith;
         rest = λ m g. ap (λ (x : ℕ). bytesFrom shift level (x + m) (readSteps (x + m) (bitAt s) (c .pos)) before) z;
-        good = λ m g. ap (λ (x : ℕ). goodSteps (readSteps (x + m) (bitAt s) (c .pos))) (sym z) ∙ g;
+        ends = λ m g. ap (λ (x : ℕ). dcBit (readSteps (x + m) (bitAt s) (c .pos))) z;
       }
 
   pub row-next : (p : ℕ) (c : AcCursor) (last : ℤ) (k : ℕ) (now : List ℕ) → Row s shift level n p before out c last k now → k < n → (g : Got) → NextDc s c g
@@ -81,7 +81,7 @@ module _ (s : List ℕ) (shift : ℕ) (level : ℤ) (n : ℕ) (before : ℤ) (ou
   row-next p c last k now i h g b {d} w e {v} f =
       let sucs : (m : ℕ) → n - k + m ≡ suc (n - (k + 1) + m) = λ m. omega arith in
       let ok : (m : ℕ) → goodSteps (readSteps (n + m) (bitAt s) p) ≡ true → goodSteps (readSteps (suc (n - (k + 1) + m)) (bitAt s) (c .pos)) ≡ true =
-      λ m q. ap (λ (x : ℕ). goodSteps (readSteps x (bitAt s) (c .pos))) (sym (sucs m)) ∙ i .good m q in
+      λ m q. ap (λ (x : ℕ). goodSteps (readSteps x (bitAt s) (c .pos))) (sym (sucs m)) ∙ good-by (readSteps (n + m) (bitAt s) p) (readSteps (n - k + m) (bitAt s) (c .pos)) (i .ends m q) q in
       record {
         bytes = i .bytes ++ (v ∷ []);
         count = omega (arith, length-append (i .bytes) (v ∷ []), i .count);
@@ -94,7 +94,9 @@ module _ (s : List ℕ) (shift : ℕ) (level : ℤ) (n : ℕ) (before : ℤ) (ou
             ∙ ap (λ (l : List ℕ). i .bytes ++ l) (bytes-next shift level (bitAt s) (n - (k + 1) + m) (c .pos) (g .num) (g .run) (g .c .pos) (b .answer) (ok m q) last e)
             ∙ ap (λ (x : ℕ). i .bytes ++ (x ∷ bytesFrom shift level (n - (k + 1) + m) (readSteps (n - (k + 1) + m) (bitAt s) (g .c .pos)) d)) (sym f)
             ∙ sym (append-assoc (i .bytes) (v ∷ []) (bytesFrom shift level (n - (k + 1) + m) (readSteps (n - (k + 1) + m) (bitAt s) (g .c .pos)) d));
-        good = λ m q. good-next (bitAt s) (n - (k + 1) + m) (c .pos) (g .num) (g .run) (g .c .pos) (b .answer) (ok m q);
+        ends = λ m q.
+            i .ends m q ∙ ap (λ (x : ℕ). dcBit (readSteps x (bitAt s) (c .pos))) (sucs m)
+            ∙ bit-next (bitAt s) (n - (k + 1) + m) (c .pos) (g .num) (g .run) (g .c .pos) (b .answer) (some (bitAt s) (n - (k + 1) + m) (c .pos) (g .num) (g .run) (g .c .pos) (b .answer) (ok m q));
       }
 
   pub row-done : (p : ℕ) (c : AcCursor) (last : ℤ) (k : ℕ) (now : List ℕ) → Row s shift level n p before out c last k now → n ≤ k → k ≤ n
@@ -109,5 +111,5 @@ module _ (s : List ℕ) (shift : ℕ) (level : ℤ) (n : ℕ) (before : ℤ) (ou
         fits = i .fits;
         near = omega (arith, i .near);
         rest = λ m q. i .rest m q ∙ ap (λ (x : ℕ). i .bytes ++ bytesFrom shift level x (readSteps x (bitAt s) (c .pos)) last) (z m);
-        good = λ m q. ap (λ (x : ℕ). goodSteps (readSteps x (bitAt s) (c .pos))) (sym (z m)) ∙ i .good m q;
+        ends = λ m q. i .ends m q ∙ ap (λ (x : ℕ). dcBit (readSteps x (bitAt s) (c .pos))) (z m);
       }

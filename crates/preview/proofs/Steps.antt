@@ -25,6 +25,12 @@ then-good : (t : DcStep) (x : DcSteps) → goodSteps (stepThen t x) ≡ true →
 then-good t badSteps e = absurd (never e)
 then-good t (dcSteps ts q) e = refl
 
+-- steps that end alike are good alike
+pub good-by : (x y : DcSteps) → dcBit x ≡ dcBit y → goodSteps x ≡ true → goodSteps y ≡ true
+good-by badSteps y e g = absurd (never g)
+good-by (dcSteps ts q) badSteps e g = absurd (let z : _≡_ {A = ℕ} 0 1 = cc in omega arith)
+good-by (dcSteps ts q) (dcSteps us r) e g = refl
+
 module _ (s : Stream) (n p k h q : ℕ) (e : dcBy k h q ≡ readDc s p) where
   pub steps-next : 0 < k → readSteps (suc n) s p ≡ stepThen (stepOf h k) (readSteps n s q)
   unfolding readSteps

@@ -4,7 +4,7 @@ use mathlib.Core.Bool.{Bool, true, false}
 use mathlib.Core.List.{List, [], _++_, map}
 use Prim.Native.Nat.{ℕ, zero, suc, _+_, _*_, _≤_}
 use lib.IntN.{ℤ, pos}
-use lib.ListN.{length, replicate}
+use lib.ListN.{length, take, drop, replicate}
 use mir.Syntax.{w16}
 use mir.Val.{SFits}
 use Rattle.ask.specs.Ask.{Answer, refused, accepted}
@@ -14,7 +14,7 @@ use Rattle.bits.specs.Lay.{lay}
 use Rattle.bitreader.specs.Cursor.{At}
 use Rattle.slice.specs.ReadPlane.{DcStep, keep, replace, DcSteps, badSteps, dcSteps, readSteps, predicted}
 use Rattle.slice.specs.Questions.{badCode}
-use Rattle.slice.specs.Previews.{Previewed}
+use Rattle.slice.specs.Previews.{Previewed, previewBytes}
 use Rattle.preview.specs.declared.PlaneEnd.{PlaneEnd}
 use Rattle.preview.specs.declared.PlaneEnd.the-variants as plane
 use Rattle.preview.specs.declared.RowEnd.{RowEnd}
@@ -58,7 +58,7 @@ endSays (plane.At q) = accepted q
 endSays (plane.Refused n) = refused n
 
 -- a row of n blocks at the bit p of s, behind a block whose DC was `before`, stored in `out`. However many blocks follow, their bytes
--- are those that the cursor and the DC handed back lead to, if no code is bad
+-- and their end are those that the cursor and the DC handed back lead to, if no code is bad
 pub record RowDone (s : List ℕ) (shift : ℕ) (level : ℤ) (n p : ℕ) (before : ℤ) (out exit : List ℕ) (e : RowEnd) : Type 0 where
   pub bytes : List ℕ
   pub count : length bytes ≡ n
@@ -68,7 +68,13 @@ pub record RowDone (s : List ℕ) (shift : ℕ) (level : ℤ) (n p : ℕ) (befor
   pub near : e .c .pos ≤ p + 112 * n
   pub rest : (m : ℕ) → goodSteps (readSteps (n + m) (bitAt s) p) ≡ true
       → bytesFrom shift level (n + m) (readSteps (n + m) (bitAt s) p) before ≡ bytes ++ bytesFrom shift level m (readSteps m (bitAt s) (e .c .pos)) (e .last)
-  pub good : (m : ℕ) → goodSteps (readSteps (n + m) (bitAt s) p) ≡ true → goodSteps (readSteps m (bitAt s) (e .c .pos)) ≡ true
+  pub ends : (m : ℕ) → goodSteps (readSteps (n + m) (bitAt s) p) ≡ true → dcBit (readSteps (n + m) (bitAt s) p) ≡ dcBit (readSteps m (bitAt s) (e .c .pos))
+
+-- two rows of n blocks by these DC codes: the bytes stored in them, and the byte q behind the codes
+pub record Stored (shift place n : ℕ) (upper upper′ lower lower′ : List ℕ) (x : DcSteps) (q : ℕ) : Type 0 where
+  pub end : accepted q ≡ dcEnd x
+  pub above : upper′ ≡ lay upper 0 (take n (previewBytes shift place (2 * n) (stepList x)))
+  pub below : lower′ ≡ lay lower 0 (drop n (previewBytes shift place (2 * n) (stepList x)))
 
 -- number, position and rows of an answer to a call that started at `at`: a refusal hands the start back
 abbrev pub previewSays : ℕ → PlaneEnd → List ℕ → List ℕ → Previewed

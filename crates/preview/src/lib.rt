@@ -1,6 +1,7 @@
 // The preview of a plane, from its DC stream alone (slice.rs, decode_plane_preview).
-// The stream is read through before a byte is stored.
+// The stream is judged before a byte is stored: one without six zero bytes in a row holds no bad code, only another is read through.
 ghost use mathlib.Core.Path.{_≡_};
+ghost use mathlib.Core.Bool.{true};
 ghost use mathlib.Core.List.{List};
 ghost use Prim.Native.Nat.{ℕ, _*_, _^_, _≤_, _<_};
 ghost use lib.ListN.{length};
@@ -13,7 +14,7 @@ ghost use Rattle.slice.specs.ReadPlane.{readSteps, settle};
 ghost use Rattle.slice.specs.Plane.{level};
 ghost use Rattle.slice.specs.Questions.{previewQuestions};
 ghost use Rattle.slice.specs.Previews.{preview};
-ghost use Rattle.preview.specs.Row.{stepOf, byteOf, dcEnd, endSays, RowDone, previewSays};
+ghost use Rattle.preview.specs.Row.{stepOf, byteOf, goodSteps, dcEnd, endSays, RowDone, Stored, previewSays};
 use bitreader::AcCursor;
 
 // Where a plane ends: the byte behind its stream, or the number of a refusal.
@@ -52,6 +53,20 @@ pub fn through_dc(dc: &[u8], at: usize, columns: usize) -> PlaneEnd
     }
 }
 
+// No bad code in a plane's DC stream, from the byte `at` on.
+pub fn plane_good(dc: &[u8], at: usize, columns: usize) -> bool
+    requires { ⌜ (at < 2 ^ 31) × (columns ≤ 960) ⌝ }
+    ensures { λ r. ⌜ r ≡ goodSteps (readSteps (2 * columns) (bitAt (now (dc .entry))) (8 * at)) ⌝ }
+{
+    if bitscan::no_six_zeros(dc, at) {
+        return true;
+    }
+    match through_dc(dc, at, columns) {
+        PlaneEnd::At(e) => true,
+        PlaneEnd::Refused(n) => false,
+    }
+}
+
 // A block's DC: a zero step keeps what stands at place 0, any other, shifted back, replaces it; the prediction is added, wrapping.
 pub fn settled(run: u64, num: u64, shift: u32, here: i16, prior: i16) -> i16
     requires { ⌜ shift < 16 ⌝ }
@@ -86,7 +101,7 @@ fn preview_byte(d: i16, level: i16) -> u8
     (scalar::bits16(v) % 256) as u8
 }
 
-// Stores one row of blocks, of a stream that was read through. The prediction goes on into the next row.
+// Stores one row of blocks, of a stream that was judged good. The prediction goes on into the next row.
 fn preview_row(
     dc: &[u8],
     c0: AcCursor,
@@ -110,6 +125,28 @@ fn preview_row(
         k += 1;
     }
     RowEnd { c, last }
+}
+
+// Stores both rows of a stream that was judged good; the byte behind its codes.
+fn store_preview(
+    shift: u32,
+    place: u32,
+    columns: usize,
+    upper: &mut [u8],
+    lower: &mut [u8],
+    dc: &[u8],
+    at: usize,
+) -> usize
+    requires { ⌜ (shift < 16) × (columns ≤ 960) × (columns ≤ length (now upper)) × (columns ≤ length (now lower)) × (at ≤ 16777215) × (goodSteps (readSteps (2 * columns) (bitAt (now dc)) (8 * at)) ≡ true) ⌝ }
+    ensures { λ r. ⌜ Stored shift place columns (now (upper .entry)) (now (upper .exit)) (now (lower .entry)) (now (lower .exit)) (readSteps (2 * columns) (bitAt (now (dc .entry))) (8 * at)) r ⌝ }
+{
+    let c = bitreader::cursor(dc, 8 * at);
+    let level = level8(place);
+    let row = preview_row(dc, c, shift, level, 0, columns, upper);
+    let d = row.c;
+    let last = row.last;
+    let end = preview_row(dc, d, shift, level, last, columns, lower);
+    bitreader::end_byte(end.c)
 }
 
 // The first "no" among the questions, 0 where there is none; the outputs have room for so many bytes, the stream has so many.
@@ -165,16 +202,8 @@ pub fn preview(
         return PlaneEnd::Refused(x);
     }
     let columns = stride / 8;
-    match through_dc(dc, at, columns) {
-        PlaneEnd::Refused(y) => PlaneEnd::Refused(y),
-        PlaneEnd::At(e) => {
-            let c = bitreader::cursor(dc, 8 * at);
-            let level = level8(place);
-            let row = preview_row(dc, c, shift, level, 0, columns, upper);
-            let d = row.c;
-            let last = row.last;
-            preview_row(dc, d, shift, level, last, columns, lower);
-            PlaneEnd::At(e)
-        }
+    if plane_good(dc, at, columns) {
+        return PlaneEnd::At(store_preview(shift, place, columns, upper, lower, dc, at));
     }
+    PlaneEnd::Refused(8)
 }

@@ -75,6 +75,15 @@ pub good-end : (x : Blocks) {q : ℕ} → accepted q ≡ acEnd x → goodEnds (b
 good-end badBlocks e = absurd (let z : _≡_ {A = ℕ} 0 1 = cc in omega arith)
 good-end (blocks bs q r) e = refl
 
+-- the verdict by the answer of a read-through
+pub bad-end : (x : Blocks) {n : ℕ} → refused n ≡ acEnd x → goodEnds (blockEnds x) ≡ false
+bad-end badBlocks e = refl
+bad-end (blocks bs q r) e = absurd (let z : _≡_ {A = ℕ} 0 1 = cc in omega arith)
+
+pub not-good : (x : Blocks) → goodEnds (blockEnds x) ≡ false → refused 8 ≡ acEnd x
+not-good badBlocks e = refl
+not-good (blocks bs q r) e = absurd (let z : _≡_ {A = ℕ} 0 1 = cc in omega arith)
+
 pub bad-good : {e : Ends} → e ≡ badEnds → goodEnds e ≡ true → ⊥
 bad-good {e = badEnds} f g = let z : _≡_ {A = ℕ} 0 1 = cc in omega arith
 bad-good {e = ends q r} f g = never (sym f)

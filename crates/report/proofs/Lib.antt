@@ -1,3 +1,4 @@
 pub mod Blocks
 pub mod Going
 pub mod Asked
+pub mod Ends

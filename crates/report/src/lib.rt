@@ -1,11 +1,11 @@
 // The block report: which blocks of a plane no AC symbol is read for, from the plane's AC stream alone.
-// The stream is read through before a byte is stored.
+// The stream is judged before a byte is stored: one without six zero bytes in a row holds no bad code, only another is read through.
 ghost use mathlib.Core.Path.{_≡_};
 ghost use mathlib.Core.Bool.{true};
 ghost use mathlib.Core.List.{List};
 ghost use Prim.Native.Nat.{ℕ, _*_, _/_, _^_, _≤_, _<_};
 ghost use lib.ListN.{length};
-ghost use Rattle.ask.specs.Ask.{firstNo};
+ghost use Rattle.ask.specs.Ask.{accepted, firstNo};
 ghost use Rattle.bits.specs.Bits.{bitAt};
 ghost use Rattle.bits.specs.Lay.{lay};
 ghost use Rattle.slice.specs.ReadPlane.{readBlocks};
@@ -56,10 +56,24 @@ fn flat(pending: u64) -> u8
     if pending < 64 { 0 } else { 1 }
 }
 
-// Stores one byte a block, for n blocks of a stream that was read through.
-fn store_report(ac: &[u8], at: usize, n: usize, report: &mut [u8])
+// No bad code in a plane's AC stream, from the byte `at` on.
+pub fn plane_good(ac: &[u8], at: usize, columns: usize) -> bool
+    requires { ⌜ (at < 2 ^ 31) × (columns ≤ 960) ⌝ }
+    ensures { λ r. ⌜ r ≡ goodEnds (blockEnds (readBlocks (2 * columns) (bitAt (now (ac .entry))) (8 * at) 0)) ⌝ }
+{
+    if bitscan::no_six_zeros(ac, at) {
+        return true;
+    }
+    match through_ac(ac, at, columns) {
+        PlaneEnd::At(e) => true,
+        PlaneEnd::Refused(n) => false,
+    }
+}
+
+// Stores one byte a block, for n blocks of a stream that was judged good; the byte behind them.
+fn store_report(ac: &[u8], at: usize, n: usize, report: &mut [u8]) -> usize
     requires { ⌜ (at ≤ 16777215) × (n ≤ 1920) × (n ≤ length (now report)) × (goodEnds (blockEnds (readBlocks n (bitAt (now ac)) (8 * at) 0)) ≡ true) ⌝ }
-    ensures { λ _. ⌜ now (report .exit) ≡ lay (now (report .entry)) 0 (reportsOf (readBlocks n (bitAt (now (ac .entry))) (8 * at) 0)) ⌝ }
+    ensures { λ r. ⌜ (accepted r ≡ acEnd (readBlocks n (bitAt (now (ac .entry))) (8 * at) 0)) × (now (report .exit) ≡ lay (now (report .entry)) 0 (reportsOf (readBlocks n (bitAt (now (ac .entry))) (8 * at) 0))) ⌝ }
 {
     let mut c = bitreader::cursor(ac, 8 * at);
     let mut pending: u64 = 0;
@@ -71,10 +85,11 @@ fn store_report(ac: &[u8], at: usize, n: usize, report: &mut [u8])
                 c = d;
                 pending = m;
             }
-            BlockEnd::Bad => return,
+            BlockEnd::Bad => return 0,
         }
         i += 1;
     }
+    bitreader::end_byte(c)
 }
 
 // The first "no" among the questions, 0 where there is none; the report has room for so many bytes, the stream so many.
@@ -105,11 +120,8 @@ pub fn block_report(stride: usize, report: &mut [u8], ac: &[u8], at: usize) -> P
         return PlaneEnd::Refused(x);
     }
     let columns = stride / 8;
-    match through_ac(ac, at, columns) {
-        PlaneEnd::Refused(y) => PlaneEnd::Refused(y),
-        PlaneEnd::At(e) => {
-            store_report(ac, at, 2 * columns, report);
-            PlaneEnd::At(e)
-        }
+    if plane_good(ac, at, columns) {
+        return PlaneEnd::At(store_report(ac, at, 2 * columns, report));
     }
+    PlaneEnd::Refused(8)
 }

@@ -4,11 +4,13 @@ use Prim.Native.Nat.{suc, ℕ, _+_, _-_, _*_, _≤_}
 use native.Mathlib.Omega.{arith}
 use borrow.Author.Needs.{needs}
 use lib.ListN.{length, length-set}
+use Rattle.ask.specs.Ask.{accepted}
 use Rattle.bits.specs.Bits.{bitAt}
 use Rattle.bits.specs.Lay.{lay}
 use Rattle.slice.specs.ReadPlane.{readBlocks}
 use Rattle.report.specs.Report.{reportsOf}
-use Rattle.report.proofs.Going.{Going, going-start, going-left, going-next, stored, not-bad, stored-all}
+use Rattle.report.proofs.Blocks.{end-at}
+use Rattle.report.proofs.Going.{Going, going-start, going-left, going-next, going-over, stored, not-bad, stored-all}
 use Rattle.report.proofs.store_report.Statement.{statement}
 use Rattle.acread.specs.declared.BlockEnd.the-variants as block
 use Rattle.report.proofs.store_report.Tie as tie
@@ -93,15 +95,21 @@ loop-again c =
           (c .before .before .before .before .flat .ensures),
     )
 
+end-byte-requires : tie.Need-end-byte-requires Inv-loop μ-loop
+end-byte-requires c κs = omega (arith, c .before .loop .inv .2 .near)
+
 same-length-2 : tie.Need-same-length-2 Inv-loop μ-loop
-same-length-2 c = c .before .loop .inv .1
+same-length-2 c = c .before .before .loop .inv .1
 
 returns-2 : tie.Need-returns-2 Inv-loop μ-loop
 returns-2 c =
-    let a = c .before .before .before .before .before .args in
-    let l = c .before .loop in
-    let z : a .n - l .i ≡ 0 = omega arith in
-    sym (l .inv .3 ∙ stored-all (a .ac .now) (l .c .pos) (l .pending) (a .n - l .i) (l .report) (l .i) z)
+    let a = c .before .before .before .before .before .before .args in
+    let l = c .before .before .loop in
+    let z : a .n - l .i ≡ 0 = omega arith in (
+      ap accepted (c .end-byte .ensures)
+          ∙ end-at (readBlocks (a .n) (bitAt (a .ac .now)) (8 * a .at) 0) (l .c .pos) (l .pending) (going-over (a .ac .now) (8 * a .at) (a .n) (l .c) (l .pending) (a .n - l .i) z (l .inv .2)),
+      sym (l .inv .3 ∙ stored-all (a .ac .now) (l .c .pos) (l .pending) (a .n - l .i) (l .report) (l .i) z),
+    )
 
 pub store-report-spec : {M : Type 1} → statement M
 store-report-spec =
@@ -122,5 +130,6 @@ store-report-spec =
     add-i
     loop-less
     loop-again
+    end-byte-requires
     same-length-2
     returns-2)
