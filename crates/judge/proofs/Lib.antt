@@ -1,4 +1,3 @@
-pub mod Ends
 pub mod Clean
 pub mod Planes
 pub mod Turns

@@ -10,8 +10,7 @@ use lib.Seq.{drop-cons, length-take-le, getD-take}
 use Rattle.ask.specs.Ask.{Answer, refused, accepted}
 use Rattle.slice.specs.Plane.{blocksOf}
 use Rattle.judge.specs.Good.{goesOn, goodInTurn}
-use Rattle.judge.proofs.Ends.{AnswerTo}
-use Rattle.judge.proofs.Clean.{Spans, Clean}
+use Rattle.judge.proofs.Clean.{AnswerTo, Spans, Clean}
 
 -- a stream that is clean from its start on
 pub clean-good : (read : ℕ → ℕ → Answer ℕ) (from : ℕ) → Clean read from → (ws : List ℕ) (at : ℕ) → from ≤ at → goodInTurn read ws at ≡ true
