@@ -1,4 +1,4 @@
-// The reading calls: the questions in their order, then the judge, then the storing pass. Any arguments whatever are allowed:
+// The reading calls: the verdict (questions in their order, then the judge), then the storing pass. Any arguments whatever are allowed:
 // a call that meets a "no", or a bad code, answers its number and the positions that it was given, and has stored nothing.
 ghost use mathlib.Core.Path.{_≡_};
 ghost use mathlib.Core.List.{[], _∷_};
@@ -30,26 +30,12 @@ pub fn decode_plane8(
 ) -> ReadAnswer
     ensures { λ r. ⌜ answered r (now (rows .exit) ∷ []) ≡ decodePlane (settings eight preset shift) (plane place stride (now (rows .entry))) (buffers (now (dc .entry)) (now (ac .entry))) (positions d a) ⌝ }
 {
-    let n = asks::reading_plane(
-        preset,
-        shift,
-        place,
-        stride,
-        rows.len(),
-        dc.len(),
-        d,
-        ac.len(),
-        a,
-    );
+    let n = verdict::plane(preset, shift, place, stride, rows.len(), dc, d, ac, a);
     if 0 < n {
         return ReadAnswer::Refused(n, d, a);
     }
-    if judge::plane(dc, d, ac, a, stride / 8) {
-        let e = decplane::plane8(rows, stride, place, preset, shift, dc, d, ac, a);
-        ReadAnswer::Accepted(e.dc, e.ac)
-    } else {
-        ReadAnswer::Refused(8, d, a)
-    }
+    let e = decplane::plane8(rows, stride, place, preset, shift, dc, d, ac, a);
+    ReadAnswer::Accepted(e.dc, e.ac)
 }
 
 // Reads a plane of 10-bit samples into its rows, from the positions d and a on.
@@ -66,26 +52,12 @@ pub fn decode_plane10(
 ) -> ReadAnswer
     ensures { λ r. ⌜ answered r (now (rows .exit) ∷ []) ≡ decodePlane (settings ten preset shift) (plane place stride (now (rows .entry))) (buffers (now (dc .entry)) (now (ac .entry))) (positions d a) ⌝ }
 {
-    let number = asks::reading_plane(
-        preset,
-        shift,
-        place,
-        stride,
-        rows.len(),
-        dc.len(),
-        d,
-        ac.len(),
-        a,
-    );
-    if 0 < number {
-        return ReadAnswer::Refused(number, d, a);
+    let n = verdict::plane(preset, shift, place, stride, rows.len(), dc, d, ac, a);
+    if 0 < n {
+        return ReadAnswer::Refused(n, d, a);
     }
-    let good = judge::plane(dc, d, ac, a, stride / 8);
-    if good {
-        let e = decplane::plane10(rows, stride, place, preset, shift, dc, d, ac, a);
-        return ReadAnswer::Accepted(e.dc, e.ac);
-    }
-    ReadAnswer::Refused(8, d, a)
+    let e = decplane::plane10(rows, stride, place, preset, shift, dc, d, ac, a);
+    ReadAnswer::Accepted(e.dc, e.ac)
 }
 
 // Reads the first `count` of four planes of 8-bit samples into their rows; their places are their index.
@@ -108,7 +80,7 @@ pub fn decode_slice8(
 ) -> ReadAnswer
     ensures { λ r. ⌜ answered r (now (p0 .exit) ∷ now (p1 .exit) ∷ now (p2 .exit) ∷ now (p3 .exit) ∷ []) ≡ decodeSlice (settings eight preset shift) count (rows stride0 (now (p0 .entry))) (rows stride1 (now (p1 .entry))) (rows stride2 (now (p2 .entry))) (rows stride3 (now (p3 .entry))) (buffers (now (dc .entry)) (now (ac .entry))) (positions d a) ⌝ }
 {
-    let first = asks::reading_slice(
+    let number = verdict::slice(
         count,
         preset,
         shift,
@@ -120,35 +92,32 @@ pub fn decode_slice8(
         p2.len(),
         stride3,
         p3.len(),
-        dc.len(),
+        dc,
         d,
-        ac.len(),
+        ac,
         a,
     );
-    if 0 < first {
-        return ReadAnswer::Refused(first, d, a);
+    if 0 < number {
+        return ReadAnswer::Refused(number, d, a);
     }
-    if judge::slice(dc, d, ac, a, count, stride0, stride1, stride2, stride3) {
-        let e = decslice::slice8(
-            p0,
-            stride0,
-            p1,
-            stride1,
-            p2,
-            stride2,
-            p3,
-            stride3,
-            count,
-            preset,
-            shift,
-            dc,
-            d,
-            ac,
-            a,
-        );
-        return ReadAnswer::Accepted(e.dc, e.ac);
-    }
-    ReadAnswer::Refused(8, d, a)
+    let e = decslice::slice8(
+        p0,
+        stride0,
+        p1,
+        stride1,
+        p2,
+        stride2,
+        p3,
+        stride3,
+        count,
+        preset,
+        shift,
+        dc,
+        d,
+        ac,
+        a,
+    );
+    ReadAnswer::Accepted(e.dc, e.ac)
 }
 
 // Reads the first `count` of four planes of 10-bit samples into their rows; their places are their index.
@@ -171,7 +140,7 @@ pub fn decode_slice10(
 ) -> ReadAnswer
     ensures { λ r. ⌜ answered r (now (p0 .exit) ∷ now (p1 .exit) ∷ now (p2 .exit) ∷ now (p3 .exit) ∷ []) ≡ decodeSlice (settings ten preset shift) count (rows stride0 (now (p0 .entry))) (rows stride1 (now (p1 .entry))) (rows stride2 (now (p2 .entry))) (rows stride3 (now (p3 .entry))) (buffers (now (dc .entry)) (now (ac .entry))) (positions d a) ⌝ }
 {
-    let number = asks::reading_slice(
+    let n = verdict::slice(
         count,
         preset,
         shift,
@@ -183,34 +152,30 @@ pub fn decode_slice10(
         p2.len(),
         stride3,
         p3.len(),
-        dc.len(),
+        dc,
         d,
-        ac.len(),
+        ac,
         a,
     );
-    if 0 < number {
-        return ReadAnswer::Refused(number, d, a);
+    if 0 < n {
+        return ReadAnswer::Refused(n, d, a);
     }
-    let good = judge::slice(dc, d, ac, a, count, stride0, stride1, stride2, stride3);
-    if good {
-        let e = decslice::slice10(
-            p0,
-            stride0,
-            p1,
-            stride1,
-            p2,
-            stride2,
-            p3,
-            stride3,
-            count,
-            preset,
-            shift,
-            dc,
-            d,
-            ac,
-            a,
-        );
-        return ReadAnswer::Accepted(e.dc, e.ac);
-    }
-    ReadAnswer::Refused(8, d, a)
+    let e = decslice::slice10(
+        p0,
+        stride0,
+        p1,
+        stride1,
+        p2,
+        stride2,
+        p3,
+        stride3,
+        count,
+        preset,
+        shift,
+        dc,
+        d,
+        ac,
+        a,
+    );
+    ReadAnswer::Accepted(e.dc, e.ac)
 }

@@ -14,8 +14,8 @@ use Rattle.slice.specs.Plane.{blocksOf}
 use Rattle.slice.specs.Questions.{each, strideOk}
 use Rattle.slice.specs.Calls.{PlanesRead, badPlanes, planesRead, planeThen, byPlane, readPlanes}
 use Rattle.slice.proofs.Asked.{and-l, and-r, stride-le}
-use Rattle.preview.specs.Row.{dcEnd}
-use Rattle.report.specs.Report.{acEnd}
+use Rattle.preview.specs.Row.{goodSteps, dcEnd}
+use Rattle.report.specs.Report.{blockEnds, goodEnds, acEnd}
 use Rattle.blockread.specs.On.{goodPlane}
 use Rattle.judge.specs.Good.{goodPlanes, strides, dcPlane, acPlane, goesOn, goodInTurn}
 
@@ -41,23 +41,15 @@ planes-good shift (p ∷ ps) b at =
     by-both shift (readSteps (blocksOf (p .stride)) (bitAt (b .dcBytes)) (8 * at .dc)) (readBlocks (blocksOf (p .stride)) (bitAt (b .acBytes)) (8 * at .ac) 0)
     (λ q. readPlanes shift ps b q) (λ q. goodInTurn (dcPlane (b .dcBytes)) (strides ps) q) (λ q. goodInTurn (acPlane (b .acBytes)) (strides ps) q) (λ q. planes-good shift ps b q)
 
-one-both : (shift : ℕ) (x : DcSteps) (y : Blocks) → goodPlane (bothStreams shift x y) ≡ (goesOn (dcEnd x) (λ q. true) && goesOn (acEnd y) (λ q. true))
+one-both : (shift : ℕ) (x : DcSteps) (y : Blocks) → goodPlane (bothStreams shift x y) ≡ (goodSteps x && goodEnds (blockEnds y))
 one-both shift badSteps y = refl
 one-both shift (dcSteps ts q) badBlocks = refl
 one-both shift (dcSteps ts q) (blocks bs r z) = refl
 
-pub plane-good : (shift columns : ℕ) (dc ac : List ℕ) (d a : ℕ)
-    → goodPlane (readPlane shift (2 * columns) dc ac d a) ≡ (goodInTurn (dcPlane dc) (8 * columns ∷ []) d && goodInTurn (acPlane ac) (8 * columns ∷ []) a)
-unfolding readPlane goodInTurn
-plane-good shift columns dc ac d a =
-    let e : columns ≡ 8 * columns / 8 = omega arith in
-    one-both shift (readSteps (2 * columns) (bitAt dc) (8 * d)) (readBlocks (2 * columns) (bitAt ac) (8 * a) 0)
-    ∙ ap (λ (n : ℕ). goesOn (dcEnd (readSteps (2 * n) (bitAt dc) (8 * d))) (λ q. true) && goesOn (acEnd (readBlocks (2 * n) (bitAt ac) (8 * a) 0)) (λ q. true)) e
-
--- the stride of the one plane
-pub one-stride : (w : ℕ) → w ≤ 7680 → (k : ℕ) → k < 1 → getD (w ∷ 0 ∷ 0 ∷ 0 ∷ []) k 0 ≤ 7680
-one-stride w h zero g = h
-one-stride w h (suc k) g = absurd (omega arith)
+pub plane-good : (shift n : ℕ) (dc ac : List ℕ) (d a : ℕ)
+    → goodPlane (readPlane shift n dc ac d a) ≡ (goodSteps (readSteps n (bitAt dc) (8 * d)) && goodEnds (blockEnds (readBlocks n (bitAt ac) (8 * a) 0)))
+unfolding readPlane
+plane-good shift n dc ac d a = one-both shift (readSteps n (bitAt dc) (8 * d)) (readBlocks n (bitAt ac) (8 * a) 0)
 
 -- the answer from the two streams'
 pub both-streams : {x y r : Bool} → x ≡ true → r ≡ y → r ≡ (x && y)

@@ -94,8 +94,8 @@ pub fn plane(dc: &[u8], d: usize, ac: &[u8], a: usize, columns: usize) -> bool
     requires { ⌜ (d < 2 ^ 30) × (a < 2 ^ 30) × (columns ≤ 960) ⌝ }
     ensures { λ r. ⌜ ((shift : ℕ) → r ≡ goodPlane (readPlane shift (2 * columns) (now (dc .entry)) (now (ac .entry)) d a)) ⌝ }
 {
-    if dc_good(dc, d, 1, 8 * columns, 0, 0, 0) {
-        return ac_good(ac, a, 1, 8 * columns, 0, 0, 0);
+    if preview::plane_good(dc, d, columns) {
+        return report::plane_good(ac, a, columns);
     }
     false
 }

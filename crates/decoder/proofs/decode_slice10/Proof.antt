@@ -4,7 +4,8 @@ use native.Mathlib.Omega.{arith}
 use borrow.Author.Needs.{needs}
 use Rattle.slice.specs.Arguments.{ten}
 use Rattle.encslice.specs.SliceCoding.{rows}
-use Rattle.decoder.proofs.Slices.{Given, may-judge, may-store, slice-refused, slice-bad, slice-accepted}
+use Rattle.verdict.proofs.Slices.{Given}
+use Rattle.decoder.proofs.Slices.{may-store, slice-refused, slice-accepted}
 use Rattle.decoder.proofs.decode_slice10.Statement.{statement}
 use Rattle.decoder.proofs.decode_slice10.Tie as tie
 
@@ -25,47 +26,30 @@ given s =
       a = s .args .a;
     }
 
--- no question was answered "no"
-none : (c : tie.Else1) → c .before .reading-slice .result ≡ 0
+-- the verdict was 0
+none : (c : tie.Else1) → c .before .slice .result ≡ 0
 none c = omega (arith, c .if1 .left)
 
 returns : tie.Need-returns
 returns c =
     let n = c .before in
     let s = n .before .before .before .before .before .before .before in
-    slice-refused (given s) (n .reading-slice .ensures ten (s .args .p0 .now) (s .args .p1 .now) (s .args .p2 .now) (s .args .p3 .now) refl refl refl refl) (c .if1 .taken)
-
-slice-requires : tie.Need-slice-requires
-slice-requires c κs =
-    let n = c .before in
-    let s = n .before .before .before .before .before .before .before in
-    may-judge (given s) (n .reading-slice .ensures ten (s .args .p0 .now) (s .args .p1 .now) (s .args .p2 .now) (s .args .p3 .now) refl refl refl refl) (none c)
+    slice-refused (given s) (n .slice .ensures ten (s .args .p0 .now) (s .args .p1 .now) (s .args .p2 .now) (s .args .p3 .now) refl refl refl refl) (c .if1 .taken)
 
 slice10-requires : tie.Need-slice10-requires
 slice10-requires c κs =
-    let t = c .before .before .before .before in
-    let j = t .before in
-    let e = j .before in
+    let e = c .before .before .before .before in
     let n = e .before in
     let s = n .before .before .before .before .before .before .before in
-    may-store (given s) (n .reading-slice .ensures ten (s .args .p0 .now) (s .args .p1 .now) (s .args .p2 .now) (s .args .p3 .now) refl refl refl refl) (none e) (j .slice .ensures) (t .if2 .taken)
+    may-store (given s) (n .slice .ensures ten (s .args .p0 .now) (s .args .p1 .now) (s .args .p2 .now) (s .args .p3 .now) refl refl refl refl) (none e)
 
 returns-2 : tie.Need-returns-2
 returns-2 c =
     let p = c .before .before .before .before .before .before .before .before in
-    let t = p .before .before .before .before .before in
-    let e = t .before .before in
+    let e = p .before .before .before .before .before in
     let n = e .before in
     let s = n .before .before .before .before .before .before .before in
-    slice-accepted (given s) (n .reading-slice .ensures ten (s .args .p0 .now) (s .args .p1 .now) (s .args .p2 .now) (s .args .p3 .now) refl refl refl refl) (none e) (p .slice10 .ensures)
-
-returns-3 : tie.Need-returns-3
-returns-3 c =
-    let j = c .before in
-    let e = j .before in
-    let n = e .before in
-    let s = n .before .before .before .before .before .before .before in
-    slice-bad (given s) (n .reading-slice .ensures ten (s .args .p0 .now) (s .args .p1 .now) (s .args .p2 .now) (s .args .p3 .now) refl refl refl refl) (none e) (j .slice .ensures) (c .if2 .left)
+    slice-accepted (given s) (n .slice .ensures ten (s .args .p0 .now) (s .args .p1 .now) (s .args .p2 .now) (s .args .p3 .now) refl refl refl refl) (none e) (p .slice10 .ensures)
 
 pub decode-slice10-spec : {M : Type 1} → statement M
 decode-slice10-spec =
@@ -73,11 +57,9 @@ decode-slice10-spec =
     (tie.spec
     (λ c κs. search needs)
     returns
-    slice-requires
     slice10-requires
     (λ c. search needs)
     (λ c. search needs)
     (λ c. search needs)
     (λ c. search needs)
-    returns-2
-    returns-3)
+    returns-2)
