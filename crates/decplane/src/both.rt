@@ -5,7 +5,6 @@ ghost use mathlib.Core.Bool.{not};
 ghost use Prim.Native.Nat.{_+_, _*_, _≤_, _<_};
 ghost use lib.ListN.{length};
 ghost use Rattle.tables.specs.Divisor.{divisorsOf};
-ghost use Rattle.irow.specs.Stages.{inverseTab};
 ghost use Rattle.slice.specs.Plane.{level};
 ghost use Rattle.encplane.specs.Coding.{settings, plane};
 ghost use Rattle.painted.specs.Block.{natural};
@@ -36,15 +35,14 @@ fn paint_at(
     preset: usize,
     q: &[u16; 64],
     v: i16,
-    t: &[i16; 256],
 )
-    requires { ⌜ (8 ≤ stride) × (stride ≤ 7680) × (c + (7 * stride + 8) ≤ length (rowsOf deep (now rows8) (now rows16))) × (c < 200000) × (preset < 25) × (now q ≡ divisorsOf preset) × (now t ≡ inverseTab) ⌝ }
+    requires { ⌜ (8 ≤ stride) × (stride ≤ 7680) × (c + (7 * stride + 8) ≤ length (rowsOf deep (now rows8) (now rows16))) × (c < 200000) × (preset < 25) × (now q ≡ divisorsOf preset) ⌝ }
     ensures { λ _. ⌜ PaintedAt (depthOf deep) c stride preset v (natural «has_ac» nat) (rowsOf deep (now (rows8 .entry)) (now (rows16 .entry))) (rowsOf deep (now (rows8 .exit)) (now (rows16 .exit))) × (rowsOf (not deep) (now (rows8 .exit)) (now (rows16 .exit)) ≡ rowsOf (not deep) (now (rows8 .entry)) (now (rows16 .entry))) ⌝ }
 {
     if deep {
-        painted::paint16(&mut rows16[c..], stride, nat, preset, q, v, t);
+        painted::paint16(&mut rows16[c..], stride, nat, preset, q, v);
     } else {
-        painted::paint8(&mut rows8[c..], stride, nat, has_ac, preset, q, v, t);
+        painted::paint8(&mut rows8[c..], stride, nat, has_ac, preset, q, v);
     }
 }
 
@@ -67,7 +65,6 @@ pub fn plane(
 {
     let v = level_of(deep, place);
     let q = tables::decode_numbers(preset);
-    let t = irow::table();
     let z = tables::zigzag_order();
     let cols = stride / 8;
     let mut s = blockread::begin(dc, d, ac, a);

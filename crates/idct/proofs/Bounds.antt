@@ -8,10 +8,10 @@ use lib.Dec.{T, ltb}
 use lib.IntN.{ℤ, pos, negsuc, natAbs}
 use lib.ListN.{length}
 use lib.Signed.{ltZ, nonNeg}
-use borrow.Author.Tests.{ltb-true, ltb-false}
+use borrow.Author.Tests.{ltb-true, ltb-false, le-ltb}
 use mir.Syntax.{w16}
 use mir.Val.{Fits}
-use Rattle.scalar.specs.Scalar.{packusOf}
+use Rattle.scalar.specs.Scalar.{packusOf, maxOf}
 use Rattle.scalar.specs.Tab.{tab}
 use Rattle.scalar.proofs.Fill.{length-tab, getD-tab}
 use Rattle.irow.specs.RowPass.{lane, rowsOf}
@@ -85,8 +85,16 @@ ten-mul z e f = record { fits = small (natAbs z) (ten-small z e f) }
     small : (n : ℕ) → n ≤ 1023 → n * 64 < 65536
     small n h = omega arith
 
+-- a sample of 8 bits is that of the number with 0 for what is below 0
+pub from-zero : (x : ℤ) → packusOf (maxOf x (pos 0)) ≡ packusOf x
+unfolding packusOf maxOf
+from-zero (pos n) =
+    let e : ltZ (pos n) (pos 0) ≡ false = le-ltb n 0 (omega arith) in
+    rw e refl
+from-zero (negsuc n) = refl
+
 -- the passes in order
-pub whole : (ten : Bool) (level : ℤ) (a t : List ℤ) {b w v : List ℤ} {p : List ℕ} → t ≡ inverseTab → b ≡ pairUpOf a → w ≡ pairedRows (rowRound ten) (rowShift ten) b t
+pub whole : (ten : Bool) (level : ℤ) (a : List ℤ) {b w v : List ℤ} {p : List ℕ} → b ≡ pairUpOf a → w ≡ pairedRows (rowRound ten) (rowShift ten) b inverseTab
     → v ≡ columnsOf (colRound ten) (colCorr ten) (colShift ten) level w → p ≡ samplesOf ten v → p ≡ samplesOf ten (inverseOf ten level a)
 unfolding inverseOf
-whole ten level a t et eb e f g = rw (g, f, e, eb, et, rows-law (rowRound ten) (rowShift ten) a) refl
+whole ten level a eb e f g = rw (g, f, e, eb, rows-law (rowRound ten) (rowShift ten) a) refl

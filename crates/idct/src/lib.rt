@@ -2,7 +2,6 @@
 ghost use mathlib.Core.Bool.{true, false};
 ghost use mathlib.Core.Path.{_≡_};
 ghost use Prim.Native.Nat.{_<_};
-ghost use Rattle.irow.specs.Stages.{inverseTab};
 ghost use Rattle.paint.specs.Samples.{tenOf};
 ghost use Rattle.idct.specs.Columns.{columnAt, setColumn, columnsOf};
 ghost use Rattle.idct.specs.Inverse.{inverseOf, samplesOf};
@@ -84,13 +83,13 @@ pub fn ten(x: i16) -> u16
     }
 }
 
-// The samples of 8 bits.
+// The samples of 8 bits. What is below 0 is made 0 first: the clamp that is left is one instruction for sixteen samples.
 pub fn bytes(v: [i16; 64]) -> [u8; 64]
     ensures { λ r. ⌜ r ≡ samplesOf false v ⌝ }
 {
     let mut p = [0u8; 64];
     for i in 0..64 {
-        p[i] = scalar::packus1(v[i]);
+        p[i] = scalar::packus1(scalar::max1(v[i], 0));
     }
     p
 }
@@ -106,26 +105,22 @@ pub fn words(v: [i16; 64]) -> [u16; 64]
     p
 }
 
-// The 8-bit samples of a block. The table is irow::table()'s.
-pub fn inverse8(a: [i16; 64], level: i16, t: &[i16; 256]) -> [u8; 64]
-    requires { ⌜ now t ≡ inverseTab ⌝ }
+// The 8-bit samples of a block.
+pub fn inverse8(a: [i16; 64], level: i16) -> [u8; 64]
     ensures { λ r. ⌜ r ≡ samplesOf false (inverseOf false level a) ⌝ }
 {
     let b = irow::pair_up(a);
-    let mut x = [0i16; 64];
-    let w = irow::paired_rows(&b, 1024, 11, t, &mut x);
+    let w = irow::paired_rows(&b, 1024, 11);
     let v = columns(w, 32, 31, 6, level);
     bytes(v)
 }
 
 // The 10-bit samples of a block.
-pub fn inverse16(a: [i16; 64], level: i16, t: &[i16; 256]) -> [u16; 64]
-    requires { ⌜ now t ≡ inverseTab ⌝ }
+pub fn inverse16(a: [i16; 64], level: i16) -> [u16; 64]
     ensures { λ r. ⌜ r ≡ samplesOf true (inverseOf true level a) ⌝ }
 {
     let b = irow::pair_up(a);
-    let mut x = [0i16; 64];
-    let w = irow::paired_rows(&b, 2048, 12, t, &mut x);
+    let w = irow::paired_rows(&b, 2048, 12);
     let v = columns(w, 16, 15, 5, level);
     words(v)
 }

@@ -6,7 +6,7 @@ ghost use lib.ListN.{length};
 ghost use Rattle.irow.specs.Stages.{setRow, pairUpOf, spreadOf, pairsOf, inverseTab, pairedRows, evenOf, sumLane, diffLane, byFour, foldOf};
 
 // The tables of the eight rows, by group: numbers 0 and 2, 4 and 6, 1 and 3, 5 and 7.
-pub fn table() -> [i16; 256]
+fn table() -> [i16; 256]
     ensures { λ r. ⌜ r ≡ inverseTab ⌝ }
 {
     [
@@ -414,26 +414,22 @@ pub fn fold(lo: [i16; 32], hi: [i16; 32]) -> [i16; 64]
     w
 }
 
-// The row pass on a block whose rows pair_up ordered; with table()'s table it is rowsOf (proofs/Pass, rows-law).
-// x is scratch: what it holds afterwards is free. pair_up stays with the caller, so that its block goes through memory and each pair is one load.
-pub fn paired_rows(
-    a: &[i16; 64],
-    round: i32,
-    shift: u32,
-    t: &[i16; 256],
-    x: &mut [i16; 64],
-) -> [i16; 64]
-    requires { ⌜ (shift < 32) × (length (now x) ≡ 64) ⌝ }
-    ensures { λ r. ⌜ r ≡ pairedRows round shift (now (a .entry)) (now (t .entry)) ⌝ }
+// The row pass on a block whose rows pair_up ordered; it is rowsOf (proofs/Pass, rows-law). The table is made here: the compiler
+// multiplies by its constants. pair_up stays with the caller, so that its block goes through memory and each pair is one load.
+pub fn paired_rows(a: &[i16; 64], round: i32, shift: u32) -> [i16; 64]
+    requires { ⌜ shift < 32 ⌝ }
+    ensures { λ r. ⌜ r ≡ pairedRows round shift (now (a .entry)) inverseTab ⌝ }
 {
-    spread(a, 0, x);
-    let m0 = pairs(x, t, 0);
-    spread(a, 4, x);
-    let m1 = pairs(x, t, 64);
-    spread(a, 2, x);
-    let m2 = pairs(x, t, 128);
-    spread(a, 6, x);
-    let m3 = pairs(x, t, 192);
+    let t = table();
+    let mut x = [0i16; 64];
+    spread(a, 0, &mut x);
+    let m0 = pairs(&x, &t, 0);
+    spread(a, 4, &mut x);
+    let m1 = pairs(&x, &t, 64);
+    spread(a, 2, &mut x);
+    let m2 = pairs(&x, &t, 128);
+    spread(a, 6, &mut x);
+    let m3 = pairs(&x, &t, 192);
     let lo = sums(&m0, &m1, &m2, &m3, round, shift);
     let hi = diffs(&m0, &m1, &m2, &m3, round, shift);
     fold(lo, hi)

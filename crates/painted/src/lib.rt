@@ -1,10 +1,9 @@
 // The painters of one block (write_block of slice.rs): each receives the rows from the block's corner on.
-// The divisors are tables::decode_numbers(preset)'s and the table irow::table()'s: a caller makes both once for a plane.
+// The divisors are tables::decode_numbers(preset)'s: a caller makes them once for a plane.
 ghost use mathlib.Core.Path.{_≡_};
 ghost use Prim.Native.Nat.{_+_, _*_, _≤_, _<_};
 ghost use lib.ListN.{length};
 ghost use Rattle.tables.specs.Divisor.{divisorsOf};
-ghost use Rattle.irow.specs.Stages.{inverseTab};
 ghost use Rattle.slice.specs.Arguments.{eight, ten};
 ghost use Rattle.slice.specs.Plane.{level};
 ghost use Rattle.painted.specs.Block.{natural, BlockPainted, BlockPainted10};
@@ -32,13 +31,12 @@ pub fn paint8(
     preset: usize,
     d: &[u16; 64],
     level: i16,
-    t: &[i16; 256],
 )
-    requires { ⌜ (8 ≤ stride) × (stride ≤ 7680) × (7 * stride + 8 ≤ length (now rows)) × (preset < 25) × (now d ≡ divisorsOf preset) × (now t ≡ inverseTab) ⌝ }
+    requires { ⌜ (8 ≤ stride) × (stride ≤ 7680) × (7 * stride + 8 ≤ length (now rows)) × (preset < 25) × (now d ≡ divisorsOf preset) ⌝ }
     ensures { λ _. ⌜ BlockPainted eight stride preset level (natural «has_ac» nat) (now (rows .entry)) (now (rows .exit)) ⌝ }
 {
     if has_ac {
-        dct::inverse::idct8(rows, stride, nat, preset, d, level, t);
+        dct::inverse::idct8(rows, stride, nat, preset, d, level);
     } else {
         let dc = nat[0];
         dct::inverse::broadcast_dc8(rows, stride, dc, level);
@@ -53,10 +51,9 @@ pub fn paint16(
     preset: usize,
     d: &[u16; 64],
     level: i16,
-    t: &[i16; 256],
 )
-    requires { ⌜ (8 ≤ stride) × (stride ≤ 7680) × (7 * stride + 8 ≤ length (now rows)) × (preset < 25) × (now d ≡ divisorsOf preset) × (now t ≡ inverseTab) ⌝ }
+    requires { ⌜ (8 ≤ stride) × (stride ≤ 7680) × (7 * stride + 8 ≤ length (now rows)) × (preset < 25) × (now d ≡ divisorsOf preset) ⌝ }
     ensures { λ _. ⌜ BlockPainted10 stride preset level nat (now (rows .entry)) (now (rows .exit)) ⌝ }
 {
-    dct::inverse::idct16(rows, stride, nat, preset, d, level, t);
+    dct::inverse::idct16(rows, stride, nat, preset, d, level);
 }

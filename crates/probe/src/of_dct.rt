@@ -48,8 +48,7 @@ pub extern "C" fn probe_dct_inverse8(
         return;
     }
     let d = tables::decode_numbers(preset);
-    let t = irow::table();
-    dct::inverse::idct8(rows, stride, block(nat), preset, &d, level, &t);
+    dct::inverse::idct8(rows, stride, block(nat), preset, &d, level);
 }
 
 // The same for 10-bit samples (idct16).
@@ -74,8 +73,7 @@ pub extern "C" fn probe_dct_inverse16(
         return;
     }
     let d = tables::decode_numbers(preset);
-    let t = irow::table();
-    dct::inverse::idct16(rows, stride, block(nat), preset, &d, level, &t);
+    dct::inverse::idct16(rows, stride, block(nat), preset, &d, level);
 }
 
 // A flat block from the corner of the rows on (broadcast_dc8).

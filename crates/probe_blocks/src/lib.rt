@@ -95,9 +95,8 @@ pub extern "C" fn probe_blocks_inverse8(
         return;
     }
     let d = tables::decode_numbers(preset);
-    let t = irow::table();
     for i in 0..stride / 8 {
-        dct::inverse::idct8(&mut rows[8 * i..], stride, block(nat), preset, &d, 128, &t);
+        dct::inverse::idct8(&mut rows[8 * i..], stride, block(nat), preset, &d, 128);
     }
 }
 
@@ -122,8 +121,7 @@ pub extern "C" fn probe_blocks_inverse16(
         return;
     }
     let d = tables::decode_numbers(preset);
-    let t = irow::table();
     for i in 0..stride / 8 {
-        dct::inverse::idct16(&mut rows[8 * i..], stride, block(nat), preset, &d, 512, &t);
+        dct::inverse::idct16(&mut rows[8 * i..], stride, block(nat), preset, &d, 512);
     }
 }

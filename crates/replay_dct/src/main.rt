@@ -75,13 +75,12 @@ fn forward(nat: [i16; 64], add: i16, ten: bool, preset: usize) -> [i16; 64] {
 fn inverse(nat: [i16; 64], level: i16, ten: bool, preset: usize) -> [i16; 64] {
     if preset < 25 {
         let d = tables::decode_numbers(preset);
-        let t = irow::table();
         if ten {
             let a = quant::dequant(nat, preset, &d, 2);
-            stored16(idct::inverse16(a, level, &t))
+            stored16(idct::inverse16(a, level))
         } else {
             let a = quant::dequant(nat, preset, &d, 4);
-            stored8(idct::inverse8(a, level, &t))
+            stored8(idct::inverse8(a, level))
         }
     } else {
         nat

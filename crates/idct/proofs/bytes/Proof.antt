@@ -4,13 +4,14 @@ use mathlib.Core.Bool.{true, false}
 use mathlib.Core.Path.{refl, ap, _∙_}
 use mathlib.Core.List.{List}
 use Prim.Native.Nat.{ℕ, _-_}
-use lib.IntN.{ℤ}
+use lib.IntN.{ℤ, pos}
 use mir.Facts.{toZ-ofZ}
-use Rattle.scalar.specs.Scalar.{packusOf}
+use Rattle.scalar.specs.Scalar.{packusOf, maxOf}
 use Rattle.scalar.proofs.Fill.{Filled, filled-next, filled-done}
 use Rattle.irow.specs.RowPass.{lane}
 use Rattle.paint.specs.Samples.{sampleOf}
 use Rattle.idct.specs.Inverse.{samplesOf}
+use Rattle.idct.proofs.Bounds.{from-zero}
 use Rattle.idct.proofs.bytes.Statement.{statement}
 use Rattle.idct.proofs.bytes.Tie as tie
 
@@ -28,10 +29,13 @@ loop-holds c = (omega arith, (refl, refl))
 
 loop-again : tie.Need-loop-again Inv-loop μ-loop
 loop-again c =
-    let a = c .before in
+    let m = c .before in
+    let a = m .before in
     let n = a .before in
     let l = n .before in
-    filled-next 64 (at (l .before .args .t1)) (l .loop .p) (l .loop .i) (n .loop-test .taken) (l .loop .inv) (c .packus1 .ensures ∙ ap packusOf (toZ-ofZ (sfits-of (a .packus1-arg .given))))
+    let v = l .before .args .t1 in
+    filled-next 64 (at v) (l .loop .p) (l .loop .i) (n .loop-test .taken) (l .loop .inv)
+    (c .packus1 .ensures ∙ ap packusOf (toZ-ofZ (sfits-of (m .max1 .ok)) ∙ m .max1 .ensures ∙ ap (λ (z : ℤ). maxOf z (pos 0)) (toZ-ofZ (sfits-of (a .max1-arg .given)))) ∙ from-zero (lane v (l .loop .i)))
 
 returns : tie.Need-returns Inv-loop μ-loop
 unfolding samplesOf
@@ -43,5 +47,5 @@ pub bytes-spec : {M : Type 1} → statement M
 bytes-spec =
     tie.close
     (tie.spec
-    Inv-loop μ-loop loop-holds (λ c. omega arith) (λ c. omega arith) (λ c κs. search needs) (λ c. omega arith)
+    Inv-loop μ-loop loop-holds (λ c. omega arith) (λ c. omega arith) (λ c κs. search needs) (λ c κs. search needs) (λ c. omega arith)
     (λ c. omega arith) (λ c. omega arith) loop-again returns)
