@@ -74,19 +74,7 @@ pub fn plane(
             let c = planes::corner(stride, j, k);
             let nat = g.nat;
             let flat = g.flat;
-            paint_at(
-                deep,
-                rows8,
-                rows16,
-                c,
-                stride,
-                nat,
-                !flat,
-                preset,
-                &q,
-                v,
-                &t,
-            );
+            paint_at(deep, rows8, rows16, c, stride, nat, !flat, preset, &q, v);
             let next = g.next;
             s = next;
         }

@@ -7,10 +7,10 @@ use Rattle.probe_blocks.proofs.probe_blocks_inverse16.Statement.{statem
 use Rattle.probe_blocks.proofs.probe_blocks_inverse16.Tie as tie
 
 abbrev Inv-loop : tie.InvT-loop
-Inv-loop nat preset rows₀ stride d t i₀ i-end rows i = (i ≤ i-end) × (length rows ≡ length rows₀)
+Inv-loop nat preset rows₀ stride d i₀ i-end rows i = (i ≤ i-end) × (length rows ≡ length rows₀)
 
 abbrev μ-loop : tie.MeasureT-loop
-μ-loop nat preset rows₀ stride d t i₀ i-end rows i = i-end - i
+μ-loop nat preset rows₀ stride d i₀ i-end rows i = i-end - i
 
 returns : tie.Need-returns Inv-loop μ-loop
 returns c = search needs
@@ -29,9 +29,6 @@ returns-4 c = search needs
 
 decode-numbers-requires : tie.Need-decode-numbers-requires Inv-loop μ-loop
 decode-numbers-requires c κs = search needs
-
-table-requires : tie.Need-table-requires Inv-loop μ-loop
-table-requires c κs = search needs
 
 loop-holds : tie.Need-loop-holds Inv-loop μ-loop
 loop-holds c = search needs
@@ -84,7 +81,6 @@ probe-blocks-inverse16-spec =
     mul-if4
     returns-4
     decode-numbers-requires
-    table-requires
     loop-holds
     mul-idct16
     mul-idct16-2

@@ -33,7 +33,7 @@ paint16-requires : tie.Need-paint16-requires
 paint16-requires c κs =
     let t = c .before in
     let s = t .before .before .before in
-    (s .pre .0, s .pre .1, rw (part-is (s .args .rows16 .now) (s .args .c)) (part-long (s .args .rows16 .now) (s .args .c) (s .args .stride) (fits16 t)), s .pre .4, s .pre .5, s .pre .6)
+    (s .pre .0, s .pre .1, rw (part-is (s .args .rows16 .now) (s .args .c)) (part-long (s .args .rows16 .now) (s .args .c) (s .args .stride) (fits16 t)), s .pre .4, s .pre .5)
 
 sub-paint8 : tie.Need-sub-paint8
 sub-paint8 c = omega (arith, fits8 c)
@@ -45,7 +45,7 @@ paint8-requires : tie.Need-paint8-requires
 paint8-requires c κs =
     let t = c .before in
     let s = t .before .before .before in
-    (s .pre .0, s .pre .1, rw (part-is (s .args .rows8 .now) (s .args .c)) (part-long (s .args .rows8 .now) (s .args .c) (s .args .stride) (fits8 t)), s .pre .4, s .pre .5, s .pre .6)
+    (s .pre .0, s .pre .1, rw (part-is (s .args .rows8 .now) (s .args .c)) (part-long (s .args .rows8 .now) (s .args .c) (s .args .stride) (fits8 t)), s .pre .4, s .pre .5)
 
 -- y in place of what is behind c
 abbrev put : ℕ → List ℕ → List ℕ → List ℕ

@@ -27,34 +27,34 @@ long16 false l8 l16 m8 m16 h k = ap length k
 long16 true l8 l16 m8 m16 h k = h
 
 abbrev Inv-loop2 : tie.InvT-loop2
-Inv-loop2 deep rows8₀ rows16₀ stride place preset shift dc d ac a v q t z cols s₀ j k₀ rows8 rows16 s k =
+Inv-loop2 deep rows8₀ rows16₀ stride place preset shift dc d ac a v q z cols s₀ j k₀ rows8 rows16 s k =
     (k ≤ cols) × Row (depthOf deep) preset shift place stride dc ac d a j s₀ (rowsOf deep rows8₀ rows16₀) k s (rowsOf deep rows8 rows16) × Kept deep rows8₀ rows16₀ rows8 rows16
 
 abbrev μ-loop2 : tie.MeasureT-loop2
-μ-loop2 deep rows8₀ rows16₀ stride place preset shift dc d ac a v q t z cols s₀ j k₀ rows8 rows16 s k = cols - k
+μ-loop2 deep rows8₀ rows16₀ stride place preset shift dc d ac a v q z cols s₀ j k₀ rows8 rows16 s k = cols - k
 
 abbrev Inv-loop : tie.InvT-loop
-Inv-loop deep rows8₀ rows16₀ stride place preset shift dc d ac a v q t z cols s₀ j₀ rows8 rows16 s j =
+Inv-loop deep rows8₀ rows16₀ stride place preset shift dc d ac a v q z cols s₀ j₀ rows8 rows16 s j =
     (j ≤ 2) × Behind (depthOf deep) preset shift (plane place stride (rowsOf deep rows8₀ rows16₀)) dc ac d a j 0 s (rowsOf deep rows8 rows16) × Kept deep rows8₀ rows16₀ rows8 rows16
 
 abbrev μ-loop : tie.MeasureT-loop
-μ-loop deep rows8₀ rows16₀ stride place preset shift dc d ac a v q t z cols s₀ j₀ rows8 rows16 s j = 2 - j
+μ-loop deep rows8₀ rows16₀ stride place preset shift dc d ac a v q z cols s₀ j₀ rows8 rows16 s j = 2 - j
 
 abbrev start : tie.After-begin Inv-loop2 μ-loop2 Inv-loop μ-loop → tie.Start Inv-loop2 μ-loop2 Inv-loop μ-loop
-start c = c .before .before .before .before .before .before .before .before .before
+start c = c .before .before .before .before .before .before .before .before
 
 -- from a turn's end to its painting, and to its start
 abbrev painting : tie.After-next Inv-loop2 μ-loop2 Inv-loop μ-loop → tie.After-paint-at Inv-loop2 μ-loop2 Inv-loop μ-loop
 painting c = c .before .before .before .before .before
 
 abbrev turn : tie.After-paint-at Inv-loop2 μ-loop2 Inv-loop μ-loop → tie.In-loop2 Inv-loop2 μ-loop2 Inv-loop μ-loop
-turn w = w .before .before .before .before .before .before .before .before .before
+turn w = w .before .before .before .before .before .before .before .before
 
 decode-numbers-requires : tie.Need-decode-numbers-requires Inv-loop2 μ-loop2 Inv-loop μ-loop
 decode-numbers-requires c κs = let s = c .before .before .before .before .before in omega (arith, s .pre .preset-le)
 
 begin-requires : tie.Need-begin-requires Inv-loop2 μ-loop2 Inv-loop μ-loop
-begin-requires c κs = let s = c .before .before .before .before .before .before .before .before in (omega (arith, s .pre .dc-start, s .pre .ac-start), omega (arith, s .pre .dc-start, s .pre .ac-start))
+begin-requires c κs = let s = c .before .before .before .before .before .before .before in (omega (arith, s .pre .dc-start, s .pre .ac-start), omega (arith, s .pre .dc-start, s .pre .ac-start))
 
 loop-holds : tie.Need-loop-holds Inv-loop2 μ-loop2 Inv-loop μ-loop
 loop-holds c = (omega arith, begun (c .begin .result) (c .begin .ensures), refl)
@@ -94,7 +94,7 @@ there c =
 
 paint-at-requires : tie.Need-paint-at-requires Inv-loop2 μ-loop2 Inv-loop μ-loop
 paint-at-requires c κs =
-    let k = c .before .before .before .before .before in
+    let k = c .before .before .before .before in
     let l2 = k .before .before .before .before in
     let b = l2 .before .before .before in
     let s = start b in (
@@ -103,8 +103,7 @@ paint-at-requires c κs =
       there k,
       omega (arith, k .corner .ensures, corner-fits (l2 .before .before .loop .j) (l2 .loop2 .k) (s .args .stride) (l2 .before .loop-test .taken) (k .before .before .before .loop2-test .taken), s .pre .stride-le),
       omega (arith, s .pre .preset-le),
-      b .before .before .before .decode-numbers .ensures,
-      b .before .before .table .ensures,
+      b .before .before .decode-numbers .ensures,
     )
 
 add-k : tie.Need-add-k Inv-loop2 μ-loop2 Inv-loop μ-loop
@@ -121,13 +120,13 @@ loop2-less c =
 loop2-again : tie.Need-loop2-again Inv-loop2 μ-loop2 Inv-loop μ-loop
 loop2-again c =
     let w = painting c in
-    let k = w .before .before .before .before .before .before in
+    let k = w .before .before .before .before .before in
     let g = k .before in
     let i2 = g .before .before in
     let l2 = i2 .before in
     let l = l2 .before .before in
     let s = start (l .before) in
-    let v = l .before .before .before .before .before .level-of in (
+    let v = l .before .before .before .before .level-of in (
       omega (arith, i2 .loop2-test .taken),
       λ r o x.
           next (l .loop .j) (l2 .loop2 .k) (g .next-block .result) (rowsOf (s .args .deep) (l2 .loop2 .rows8) (l2 .loop2 .rows16)) (rowsOf (s .args .deep) (w .paint-at .last .1 .0) (w .paint-at .last .1 .1 .0)) o (l2 .before .loop-test .taken) (i2 .loop2-test .taken) (g .next-block .ensures) (k .corner .ensures)
@@ -182,7 +181,6 @@ plane-spec =
     μ-loop
     (λ c κs. search needs)
     decode-numbers-requires
-    (λ c κs. search needs)
     (λ c κs. search needs)
     begin-requires
     loop-holds
