@@ -1,5 +1,6 @@
 //! Times beside the Rust's, in one run: the best of several rounds, since other
-//! work on the machine only ever adds.
+//! work on the machine only ever adds. Each round goes through all sides in turn,
+//! so that a change of the machine's clock meets all of them.
 
 use crate::calls::{Buffers, Calls, Plane, PlaneCoder, Rust};
 use crate::gen::planes::Made;
@@ -11,13 +12,17 @@ use reference::api::tables::quant;
 use reference::api::{dct, Depth, PATHS};
 use reference::api::bits::{AcSymbol, Cursor, Writer};
 use std::hint::black_box;
+use std::cell::RefCell;
 use std::process::ExitCode;
-use std::time::Instant;
+use std::time::{Duration, Instant};
 
+/// Rounds at least, how often a side runs in each of them, and how long a row takes at least.
 const ROUNDS: usize = 15;
+const TURNS: usize = 5;
+const ROW: Duration = Duration::from_millis(200);
 
 pub fn run() -> ExitCode {
-    println!("ns each, best of {ROUNDS} rounds; ratio: ours over the column before it\n");
+    println!("ns each, best of {ROUNDS} rounds or more of {TURNS} turns; ratio: ours over the column before it\n");
     println!("| | ours | SSE2 | ratio | portable | ratio |");
     println!("|---|---|---|---|---|---|");
     symbols();
@@ -62,24 +67,29 @@ fn work_on<T: Made>(who: &str, act: &str, times: usize) -> ExitCode {
     ExitCode::SUCCESS
 }
 
-/// The least time of one of `items` over all rounds.
-fn best(items: usize, mut f: impl FnMut()) -> f64 {
-    let mut least = f64::MAX;
-    for _ in 0..ROUNDS {
-        let start = Instant::now();
-        f();
-        least = least.min(start.elapsed().as_nanos() as f64 / items as f64);
+/// One row of the table: the least time of one of `items`, ours, the Rust's and, where it differs, its portable path's.
+fn row(name: &str, items: usize, sides: &mut [&mut dyn FnMut()]) {
+    let mut least = vec![f64::MAX; sides.len()];
+    let (mut rounds, begin) = (0, Instant::now());
+    while rounds < ROUNDS || begin.elapsed() < ROW {
+        rounds += 1;
+        for (side, least) in sides.iter_mut().zip(&mut least) {
+            for _ in 0..TURNS {
+                let start = Instant::now();
+                side();
+                *least = least.min(start.elapsed().as_nanos() as f64 / items as f64);
+            }
+        }
     }
-    least
-}
-
-/// One row of the table; the Rust's portable path where it differs from SSE2.
-fn line(name: &str, ours: f64, sse2: f64, portable: Option<f64>) {
-    let (p, r) = match portable {
-        Some(p) => (format!("{p:.1}"), format!("{:.2}", ours / p)),
-        None => ("-".into(), "-".into()),
-    };
-    println!("| {name} | {ours:.1} | {sse2:.1} | {:.2} | {p} | {r} |", ours / sse2);
+    let ours = least[0];
+    print!("| {name} | {ours:.1}");
+    for at in 1..3 {
+        match least.get(at) {
+            Some(rust) => print!(" | {rust:.1} | {:.2}", ours / rust),
+            None => print!(" | - | -"),
+        }
+    }
+    println!(" |");
 }
 
 /// Symbols written and read: runs with values as planes have them.
@@ -90,27 +100,28 @@ fn symbols() {
     let runs: Vec<u32> = (0..N).map(|_| if rng.once_in(2) { 0 } else { rng.below(12) as u32 }).collect();
     let codes: Vec<u32> = (0..N).map(|_| 2 + (rng.next() as u32 & ((1 << rng.between(1, 6)) - 1))).collect();
     let mut out = vec![0u8; 8 * N];
-    let ours = best(N, || {
+    let mut ours = || {
         black_box(ours::bits::write(&kinds, &runs, &codes, 0, black_box(&mut out)));
-    });
-    let rust = best(N, || {
+    };
+    let mut rust = || {
         let mut w = Writer::with_room(8 * N);
         for (n, v) in runs.iter().zip(&codes) {
             w.put_run_value_unreserved(*n, *v);
         }
         w.align();
         black_box(w.bytes());
-    });
-    line("symbol written (run and value)", ours, rust, None);
+    };
+    row("symbol written (run and value)", N, &mut [&mut ours, &mut rust]);
 
     let end = ours::bits::write(&kinds, &runs, &codes, 0, &mut out);
     let s = &out[..end];
     let count = ours::bits::read(s, 0, false, 2 * N).len();
-    let mut room = vec![0u64; 3 * count];
-    let ours = best(count, || {
-        black_box(ours::bits::read_into(black_box(s), 0, false, &mut room));
-    });
-    let rust = best(count, || {
+    let room = RefCell::new(vec![0u64; 3 * count]);
+    let mut ours = || {
+        black_box(ours::bits::read_into(black_box(s), 0, false, &mut room.borrow_mut()));
+    };
+    let mut rust = || {
+        let mut room = room.borrow_mut();
         let mut c = Cursor::new(black_box(s), 0);
         for k in 0..count {
             let Some(x) = c.symbol() else { break };
@@ -123,8 +134,8 @@ fn symbols() {
             room[3 * k + 2] = c.bit_pos() as u64;
         }
         black_box(&room);
-    });
-    line("AC symbol read", ours, rust, None);
+    };
+    row("AC symbol read", count, &mut [&mut ours, &mut rust]);
 }
 
 /// Transforms with quantiser, of a row of blocks.
@@ -135,42 +146,50 @@ fn blocks() {
     let q = quant(preset);
     let (eight, ten) = (content::<u8>(STRIDE).2, content::<u16>(STRIDE).2);
     let mut z = [0i16; 64];
-    let ours = best(N, || ours::dct::forward_row8(black_box(&eight), STRIDE, preset, &mut z));
-    let [sse2, portable] = PATHS.map(|path| {
-        best(N, || {
-            black_box(dct::forward_row(path, black_box(&eight), STRIDE, Depth::Eight, &q.encode, -128));
-        })
+    let mut ours = || ours::dct::forward_row8(black_box(&eight), STRIDE, preset, &mut z);
+    let [mut sse2, mut portable] = PATHS.map(|path| {
+        let (rows, q) = (&eight, &q);
+        move || {
+            black_box(dct::forward_row(path, black_box(rows), STRIDE, Depth::Eight, &q.encode, -128));
+        }
     });
-    line("forward transform, quantiser and scan of a block, 8-bit", ours, sse2, Some(portable));
-    let ours = best(N, || ours::dct::forward_row16(black_box(&ten), STRIDE, preset, &mut z));
-    let [sse2, portable] = PATHS.map(|path| {
-        best(N, || {
-            black_box(dct::forward_row(path, black_box(&ten), STRIDE, Depth::Ten, &q.encode, -512));
-        })
+    let name = "forward transform, quantiser and scan of a block, 8-bit";
+    row(name, N, &mut [&mut ours, &mut sse2, &mut portable]);
+    let mut ours = || ours::dct::forward_row16(black_box(&ten), STRIDE, preset, &mut z);
+    let [mut sse2, mut portable] = PATHS.map(|path| {
+        let (rows, q) = (&ten, &q);
+        move || {
+            black_box(dct::forward_row(path, black_box(rows), STRIDE, Depth::Ten, &q.encode, -512));
+        }
     });
-    line("the same, 10-bit", ours, sse2, Some(portable));
+    row("the same, 10-bit", N, &mut [&mut ours, &mut sse2, &mut portable]);
 
     let nat: [i16; 64] = core::array::from_fn(|i| if i % 5 == 0 { 40 - i as i16 } else { 0 });
-    let mut rows = eight.clone();
-    let ours = best(N, || ours::dct::inverse_row8(black_box(&nat), preset, &mut rows, STRIDE));
-    let [sse2, portable] = PATHS.map(|path| {
-        best(N, || {
+    let rows = RefCell::new(eight.clone());
+    let mut ours = || ours::dct::inverse_row8(black_box(&nat), preset, &mut rows.borrow_mut(), STRIDE);
+    let [mut sse2, mut portable] = PATHS.map(|path| {
+        let (rows, nat, q) = (&rows, &nat, &q);
+        move || {
+            let mut rows = rows.borrow_mut();
             for x in (0..STRIDE).step_by(8) {
-                dct::idct8(path, black_box(&nat), &q.decode, &mut rows[x..], STRIDE, 128);
+                dct::idct8(path, black_box(nat), &q.decode, &mut rows[x..], STRIDE, 128);
             }
-        })
+        }
     });
-    line("dequantising, inverse transform and store of a block, 8-bit", ours, sse2, Some(portable));
-    let mut rows = ten.clone();
-    let ours = best(N, || ours::dct::inverse_row16(black_box(&nat), preset, &mut rows, STRIDE));
-    let [sse2, portable] = PATHS.map(|path| {
-        best(N, || {
+    let name = "dequantising, inverse transform and store of a block, 8-bit";
+    row(name, N, &mut [&mut ours, &mut sse2, &mut portable]);
+    let rows = RefCell::new(ten.clone());
+    let mut ours = || ours::dct::inverse_row16(black_box(&nat), preset, &mut rows.borrow_mut(), STRIDE);
+    let [mut sse2, mut portable] = PATHS.map(|path| {
+        let (rows, nat, q) = (&rows, &nat, &q);
+        move || {
+            let mut rows = rows.borrow_mut();
             for x in (0..STRIDE).step_by(8) {
-                dct::idct16(path, black_box(&nat), &q.decode, &mut rows[x..], STRIDE, 512);
+                dct::idct16(path, black_box(nat), &q.decode, &mut rows[x..], STRIDE, 512);
             }
-        })
+        }
     });
-    line("the same, 10-bit", ours, sse2, Some(portable));
+    row("the same, 10-bit", N, &mut [&mut ours, &mut sse2, &mut portable]);
 }
 
 /// A plane whose left half is smooth and whose right half has noise of a quarter of the range.
@@ -209,19 +228,16 @@ fn room(stride: usize) -> Buffers {
 
 fn coding<T: Made>(name: &str, settings: Settings, plane: &Plane<T>) {
     let mut b = room(plane.1);
-    let mut time = |f: &dyn Fn(&mut Buffers)| {
-        best(plane.1 / 4, || {
-            (b.dc_at, b.ac_at) = (0, 0);
-            f(black_box(&mut b));
-        })
+    let mut ours = || {
+        (b.dc_at, b.ac_at) = (0, 0);
+        assert_eq!(OURS.code_plane(settings, plane, black_box(&mut b)), 0);
     };
-    let ours = time(&|b| assert_eq!(OURS.code_plane(settings, plane, b), 0));
     // The Rust's own function: its streams go into vectors that grow.
-    let [sse2, portable] = PATHS.map(|path| {
+    let [mut sse2, mut portable] = PATHS.map(|path| {
         let rust = Rust::new(path);
-        time(&|_| drop(black_box(rust.streams(settings, plane))))
+        move || drop(black_box(rust.streams(settings, plane)))
     });
-    line(&format!("block coded, {name}"), ours, sse2, Some(portable));
+    row(&format!("block coded, {name}"), plane.1 / 4, &mut [&mut ours, &mut sse2, &mut portable]);
 }
 
 /// The streams end where the plane's last code does, as in a frame.
@@ -235,17 +251,17 @@ fn coded<T: Made>(settings: Settings, planes: &[Plane<T>]) -> Buffers {
 }
 
 fn reading<T: Made>(name: &str, settings: Settings, plane: &Plane<T>) {
-    let mut b = coded(settings, std::slice::from_ref(plane));
-    let mut rows = plane.clone();
-    let ours = best(plane.1 / 4, || {
-        (b.dc_at, b.ac_at) = (0, 0);
-        assert_eq!(OURS.read_plane(settings, black_box(&mut rows), &mut b), 0);
+    let b = coded(settings, std::slice::from_ref(plane));
+    let (mut own, rows) = (b.clone(), RefCell::new(plane.clone()));
+    let mut ours = || {
+        (own.dc_at, own.ac_at) = (0, 0);
+        assert_eq!(OURS.read_plane(settings, black_box(&mut rows.borrow_mut()), &mut own), 0);
+    };
+    let [mut sse2, mut portable] = PATHS.map(|path| {
+        let (rust, rows, b) = (Rust::new(path), &rows, &b);
+        move || assert!(rust.rows(settings, black_box(&mut rows.borrow_mut()), b, (0, 0)).is_some())
     });
-    let [sse2, portable] = PATHS.map(|path| {
-        let rust = Rust::new(path);
-        best(plane.1 / 4, || assert!(rust.rows(settings, black_box(&mut rows), &b, (0, 0)).is_some()))
-    });
-    line(&format!("block read, {name}"), ours, sse2, Some(portable));
+    row(&format!("block read, {name}"), plane.1 / 4, &mut [&mut ours, &mut sse2, &mut portable]);
 }
 
 /// The planes of a slice, 4:2:2.
@@ -259,52 +275,63 @@ fn slices<T: Made>(depth: &str) {
     let planes = three_planes::<T>();
     let blocks: usize = planes.iter().map(|p| p.1 / 4).sum();
     let mut b = room(3840);
-    let ours = best(blocks, || {
+    let mut ours = || {
         (b.dc_at, b.ac_at) = (0, 0);
         assert_eq!(OURS.code_slice(settings, &planes, black_box(&mut b)), 0);
+    };
+    let [mut sse2, mut portable] = PATHS.map(|path| {
+        let (rust, planes) = (Rust::new(path), &planes);
+        move || planes.iter().for_each(|p| drop(black_box(rust.streams(settings, p))))
     });
-    let [sse2, portable] = PATHS.map(|path| {
-        let rust = Rust::new(path);
-        best(blocks, || planes.iter().for_each(|p| drop(black_box(rust.streams(settings, p)))))
-    });
-    line(&format!("block of a slice of three planes coded, {depth}, preset 8"), ours, sse2, Some(portable));
-    let mut b = coded(settings, &planes);
-    let mut rows = planes.clone();
-    let ours = best(blocks, || {
-        (b.dc_at, b.ac_at) = (0, 0);
-        assert_eq!(OURS.read_slice(settings, black_box(&mut rows), &mut b), 0);
-    });
-    let [sse2, portable] = PATHS.map(|path| {
-        let rust = Rust::new(path);
-        best(blocks, || {
+    let name = format!("block of a slice of three planes coded, {depth}, preset 8");
+    row(&name, blocks, &mut [&mut ours, &mut sse2, &mut portable]);
+    let b = coded(settings, &planes);
+    let (mut own, rows) = (b.clone(), RefCell::new(planes.clone()));
+    let mut ours = || {
+        (own.dc_at, own.ac_at) = (0, 0);
+        assert_eq!(OURS.read_slice(settings, black_box(&mut rows.borrow_mut()), &mut own), 0);
+    };
+    let [mut sse2, mut portable] = PATHS.map(|path| {
+        let (rust, rows, b) = (Rust::new(path), &rows, &b);
+        move || {
             let mut at = (0, 0);
-            for p in &mut rows {
-                at = rust.rows(settings, black_box(p), &b, at).unwrap();
+            for p in rows.borrow_mut().iter_mut() {
+                at = rust.rows(settings, black_box(p), b, at).unwrap();
             }
-        })
+        }
     });
-    line(&format!("block of a slice of three planes read, {depth}, preset 8"), ours, sse2, Some(portable));
+    let name = format!("block of a slice of three planes read, {depth}, preset 8");
+    row(&name, blocks, &mut [&mut ours, &mut sse2, &mut portable]);
 }
 
 /// Previews and block reports: one stream alone. The Rust has no report; beside ours stands its cursor under document 01's rule.
 fn alone<T: Made>(depth: &str) {
     let settings = Settings { preset: 8, dc_shift: 0 };
     let plane = content::<T>(1920);
-    let mut b = coded(settings, std::slice::from_ref(&plane));
     let (mut x, mut y, mut flat) = (vec![0; 240], vec![0; 240], vec![0; 480]);
+    let (mut a, mut z, mut spots) = (x.clone(), y.clone(), flat.clone());
+    let b = coded(settings, std::slice::from_ref(&plane));
+    let (mut own, mut rusts) = (b.clone(), b);
     let rust = Rust::new(PATHS[0]);
-    let mut time = |who: &mut dyn FnMut(&mut [u8], &mut [u8], &mut [u8], &mut Buffers) -> u32| {
-        best(480, || {
-            (b.dc_at, b.ac_at) = (0, 0);
-            assert_eq!(who(&mut x, &mut y, &mut flat, black_box(&mut b)), 0);
-        })
+    let start = |b: &mut Buffers| (b.dc_at, b.ac_at) = (0, 0);
+    let mut ours = || {
+        start(&mut own);
+        assert_eq!(OURS.preview(0, 0, 1920, [&mut x, &mut y], black_box(&mut own)), 0);
     };
-    let ours = time(&mut |x, y, _, b| OURS.preview(0, 0, 1920, [x, y], b));
-    let theirs = time(&mut |x, y, _, b| rust.preview_in_place(0, 0, 1920, [x, y], b));
-    line(&format!("block previewed, {depth}"), ours, theirs, None);
-    let ours = time(&mut |_, _, f, b| OURS.block_report(1920, f, b));
-    let theirs = time(&mut |_, _, f, b| rust.block_report(1920, f, b));
-    line(&format!("block reported, {depth}"), ours, theirs, None);
+    let mut theirs = || {
+        start(&mut rusts);
+        assert_eq!(rust.preview_in_place(0, 0, 1920, [&mut a, &mut z], black_box(&mut rusts)), 0);
+    };
+    row(&format!("block previewed, {depth}"), 480, &mut [&mut ours, &mut theirs]);
+    let mut ours = || {
+        start(&mut own);
+        assert_eq!(OURS.block_report(1920, &mut flat, black_box(&mut own)), 0);
+    };
+    let mut theirs = || {
+        start(&mut rusts);
+        assert_eq!(rust.block_report(1920, &mut spots, black_box(&mut rusts)), 0);
+    };
+    row(&format!("block reported, {depth}"), 480, &mut [&mut ours, &mut theirs]);
 }
 
 /// A frame of 1,920 x 1,080 samples, 4:2:2: its header, the places of its 136 streams, and the frame built from them. The
@@ -317,28 +344,30 @@ fn frames() {
     let (dc, ac) = (vec![b.dc; layout.slices()], vec![b.ac; layout.slices()]);
     let frame = layout::write(&layout, false, 90, 0, &dc, &ac);
     let mut out = vec![0; frame.len()];
-    let time = |f: &mut dyn FnMut()| best(TIMES, || (0..TIMES).for_each(|_| f()));
+    let frame_row = |name: &str, ours: &mut dyn FnMut(), rust: &mut dyn FnMut()| {
+        row(name, TIMES, &mut [&mut || (0..TIMES).for_each(|_| ours()), &mut || (0..TIMES).for_each(|_| rust())])
+    };
 
-    let rust = time(&mut || assert_eq!(layout::stream_count(&layout, black_box(&frame)), Ok(2 * layout.slices())));
-    let ours = time(&mut || assert!(ours::layout::parse(SIZE.0, SIZE.1, black_box(&frame)).is_ok()));
-    line("frame's header and lengths read, 1920 x 1080", ours, rust, None);
-    let ours = time(&mut || {
+    let mut rust = || assert_eq!(layout::stream_count(&layout, black_box(&frame)), Ok(2 * layout.slices()));
+    let mut ours = || assert!(ours::layout::parse(SIZE.0, SIZE.1, black_box(&frame)).is_ok());
+    frame_row("frame's header and lengths read, 1920 x 1080", &mut ours, &mut rust);
+    let mut ours = || {
         for ac in [false, true] {
             for slice in 0..layout.slices() {
                 assert!(black_box(ours::layout::view(SIZE.0, SIZE.1, black_box(&frame), ac, slice)).is_ok());
             }
         }
-    });
-    line("all 136 streams of that frame found", ours, rust, None);
-    let ours = time(&mut || {
+    };
+    frame_row("all 136 streams of that frame found", &mut ours, &mut rust);
+    let mut ours = || {
         let mut state = ours::builder::start(SIZE, false, 90, 0, black_box(&mut out), 0).unwrap();
         for (is_ac, streams) in [(false, &dc), (true, &ac)] {
             for (slice, s) in streams.iter().enumerate() {
                 assert_eq!(ours::builder::stream(&mut state, is_ac, slice, s, &mut out), 0);
             }
         }
-    });
+    };
+    let mut rust = || drop(black_box(layout::write(&layout, false, 90, 0, black_box(&dc), &ac)));
+    frame_row("that frame built from its streams", &mut ours, &mut rust);
     assert!(out == frame);
-    let rust = time(&mut || drop(black_box(layout::write(&layout, false, 90, 0, black_box(&dc), &ac))));
-    line("that frame built from its streams", ours, rust, None);
 }
