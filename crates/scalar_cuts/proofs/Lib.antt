@@ -1,0 +1,4 @@
+pub mod Widths
+pub mod Shifts
+pub mod Nearest
+pub mod Patterns
