@@ -6,11 +6,11 @@ use mir.Syntax.{w16}
 use mir.Val.{ofZ}
 use mir.Facts.{toZ-ofZ}
 use lib.IntN.{natAbs}
-use Rattle.quant.proofs.Signs.{abs-bits, magnitude-small}
-use Rattle.quant.proofs.magnitude.Statement.{statement}
-use Rattle.quant.proofs.magnitude.Tie as tie
-use Rattle.quant.proofs.magnitude.Reads as reads
-use Rattle.quant.proofs.magnitude.Lts as lts
+use Rattle.quant_one.proofs.Signs.{abs-bits, magnitude-small}
+use Rattle.quant_one.proofs.magnitude.Statement.{statement}
+use Rattle.quant_one.proofs.magnitude.Tie as tie
+use Rattle.quant_one.proofs.magnitude.Reads as reads
+use Rattle.quant_one.proofs.magnitude.Lts as lts
 use Rattle.scalar.proofs.abs1.Reads as abs1-reads
 use Rattle.scalar.proofs.bits16.Reads as bits16-reads
 

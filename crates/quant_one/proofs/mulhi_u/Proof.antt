@@ -1,10 +1,10 @@
 use borrow.Author.Needs.{needs}
 use native.Mathlib.Omega.{arith}
 use Rattle.scalar.proofs.Laws.{bits-prod}
-use Rattle.quant.proofs.mulhi_u.Statement.{statement}
-use Rattle.quant.proofs.mulhi_u.Tie as tie
-use Rattle.quant.proofs.mulhi_u.Reads as reads
-use Rattle.quant.proofs.mulhi_u.Lts as lts
+use Rattle.quant_one.proofs.mulhi_u.Statement.{statement}
+use Rattle.quant_one.proofs.mulhi_u.Tie as tie
+use Rattle.quant_one.proofs.mulhi_u.Reads as reads
+use Rattle.quant_one.proofs.mulhi_u.Lts as lts
 
 mul-result : tie.Need-mul-result
 mul-result c = record { fits = omega (arith, bits-prod (c .args .a) (c .args .b) (c .fits .a .fits) (c .fits .b .fits)) }

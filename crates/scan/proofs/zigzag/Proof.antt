@@ -1,11 +1,11 @@
 use mathlib.Core.Path.{refl}
-use Rattle.quant.proofs.Moves.{moved}
+use Rattle.scan.proofs.Moves.{moved}
 use borrow.Author.Needs.{needs}
-use Rattle.quant.proofs.zigzag.Statement.{statement}
-use Rattle.quant.proofs.zigzag.Tie as tie
-use Rattle.quant.proofs.zigzag.Reads as reads
-use Rattle.quant.proofs.zigzag.Lts as lts
-use Rattle.quant.proofs.eight.Reads as eight-reads
+use Rattle.scan.proofs.zigzag.Statement.{statement}
+use Rattle.scan.proofs.zigzag.Tie as tie
+use Rattle.scan.proofs.zigzag.Reads as reads
+use Rattle.scan.proofs.zigzag.Lts as lts
+use Rattle.scan.proofs.eight.Reads as eight-reads
 
 eight-requires : tie.Need-eight-requires
 eight-requires c κs = search needs

@@ -12,7 +12,7 @@ use mir.Facts.{toZ-ofZ}
 use Rattle.scalar.proofs.Laws.{back}
 use Rattle.scalar.specs.Tab.{tabFrom}
 use Rattle.tables.specs.Zigzag.{zigzag}
-use Rattle.quant.specs.Quantise.{coefficient, fourOf, eightOf, scanOf}
+use Rattle.scan.specs.Scan.{coefficient, fourOf, eightOf, scanOf}
 
 four-sets : (l : List ℤ) (at : ℕ) {a0 a1 a2 a3 b0 b1 b2 b3 : ℤ} → b0 ≡ a0 → b1 ≡ a1 → b2 ≡ a2 → b3 ≡ a3
     → set (set (set (set l at b0) (at + 1) b1) (at + 2) b2) (at + 3) b3 ≡ sets l at (a0 ∷ a1 ∷ a2 ∷ a3 ∷ [])

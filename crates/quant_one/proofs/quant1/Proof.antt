@@ -6,15 +6,15 @@ use borrow.Author.Needs.{sfits-of}
 use mir.Facts.{toZ-ofZ}
 use lib.IntN.{natAbs}
 use Rattle.tables.specs.Reciprocal.{high, twoHigh}
-use Rattle.quant.specs.Quantise.{withSign}
-use Rattle.quant.proofs.Signs.{magnitude-small}
-use Rattle.quant.proofs.quant1.Statement.{statement}
-use Rattle.quant.proofs.quant1.Tie as tie
-use Rattle.quant.proofs.quant1.Reads as reads
-use Rattle.quant.proofs.quant1.Lts as lts
-use Rattle.quant.proofs.magnitude.Reads as magnitude-reads
-use Rattle.quant.proofs.mulhi_u.Reads as mulhi-u-reads
-use Rattle.quant.proofs.with_sign.Reads as with-sign-reads
+use Rattle.quant_one.specs.Sign.{withSign}
+use Rattle.quant_one.proofs.Signs.{magnitude-small}
+use Rattle.quant_one.proofs.quant1.Statement.{statement}
+use Rattle.quant_one.proofs.quant1.Tie as tie
+use Rattle.quant_one.proofs.quant1.Reads as reads
+use Rattle.quant_one.proofs.quant1.Lts as lts
+use Rattle.quant_one.proofs.magnitude.Reads as magnitude-reads
+use Rattle.quant_one.proofs.mulhi_u.Reads as mulhi-u-reads
+use Rattle.quant_one.proofs.with_sign.Reads as with-sign-reads
 
 known : (c : tie.After-magnitude) → c .magnitude .result ≡ natAbs (c .before .args .x)
 known c = rw (toZ-ofZ (c .before .fits .x)) at (c .magnitude .ensures)

@@ -5,11 +5,11 @@ use mir.Syntax.{w16}
 use mir.Val.{SFits, toZ, ofZ}
 use mir.Facts.{toZ-ofZ, toZ-pos}
 use Rattle.scalar.proofs.Laws.{neg-is}
-use Rattle.quant.proofs.Signs.{neg-small, with-sign-neg, with-sign-pos}
-use Rattle.quant.proofs.with_sign.Statement.{statement}
-use Rattle.quant.proofs.with_sign.Tie as tie
-use Rattle.quant.proofs.with_sign.Reads as reads
-use Rattle.quant.proofs.with_sign.Lts as lts
+use Rattle.quant_one.proofs.Signs.{neg-small, with-sign-neg, with-sign-pos}
+use Rattle.quant_one.proofs.with_sign.Statement.{statement}
+use Rattle.quant_one.proofs.with_sign.Tie as tie
+use Rattle.quant_one.proofs.with_sign.Reads as reads
+use Rattle.quant_one.proofs.with_sign.Lts as lts
 
 cast-v : tie.Need-cast-v
 cast-v c = search needs

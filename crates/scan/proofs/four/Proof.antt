@@ -1,8 +1,8 @@
 use borrow.Author.Needs.{needs, sfits-of}
 use native.Mathlib.Omega.{arith}
-use Rattle.quant.proofs.Moves.{four-moved}
-use Rattle.quant.proofs.four.Statement.{statement}
-use Rattle.quant.proofs.four.Tie as tie
+use Rattle.scan.proofs.Moves.{four-moved}
+use Rattle.scan.proofs.four.Statement.{statement}
+use Rattle.scan.proofs.four.Tie as tie
 
 returns : tie.Need-returns
 returns c =

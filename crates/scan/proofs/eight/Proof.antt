@@ -1,7 +1,7 @@
 use borrow.Author.Needs.{needs}
-use Rattle.quant.proofs.Moves.{eight-moved}
-use Rattle.quant.proofs.eight.Statement.{statement}
-use Rattle.quant.proofs.eight.Tie as tie
+use Rattle.scan.proofs.Moves.{eight-moved}
+use Rattle.scan.proofs.eight.Statement.{statement}
+use Rattle.scan.proofs.eight.Tie as tie
 
 returns : tie.Need-returns
 returns c =
