@@ -8,7 +8,8 @@ use lib.Arith.{digits-div, digits-mod}
 use lib.Dec.{ltb}
 use lib.ListN.{length, getD, set, replicate, getD-replicate}
 use borrow.Author.Tests.{lt-ltb, le-ltb}
-use Rattle.paint.specs.Paint.{over, pickN, both, sampleAt, storeBlock, putFour, putRow}
+use Rattle.paint.specs.Paint.{over, pickN, both, sampleAt, storeBlock}
+use Rattle.paint_row.specs.Row.{putRow}
 use Rattle.paint.proofs.Over.{by-eq, by-lt, over-set, over-none, over-by, getD-over, length-over}
 
 -- the first k samples of the block are stored at the corner
@@ -103,15 +104,6 @@ module _ (stride : ℕ) (p l : List ℕ) (wide : 8 ≤ stride) (room : 7 * strid
       ez
       ∙ ap (λ (x : List ℕ). set x (i * stride + 7) (getD p (i * 8 + 7) 0)) c7
       ∙ step i 7 (i * stride + 7) (i * 8 + 7) ((i + 1) * 8) hi (omega arith) refl refl (omega arith)
-
--- eight samples, stored four and four
-pub two-fours : (l p : List ℕ) (at o : ℕ) {m r : List ℕ} → m ≡ putFour l at (getD p o 0) (getD p (o + 1) 0) (getD p (o + 2) 0) (getD p (o + 3) 0)
-    → r ≡ putFour m (at + 4) (getD p (o + 4) 0) (getD p (o + 5) 0) (getD p (o + 6) 0) (getD p (o + 7) 0) → r ≡ putRow l at p o
-two-fours l p at o e f =
-    let a : at + 4 + 1 ≡ at + 5 = omega arith in
-    let b : at + 4 + 2 ≡ at + 6 = omega arith in
-    let c : at + 4 + 3 ≡ at + 7 = omega arith in
-    f ∙ rw (e, a, b, c) refl
 
 -- one sample, 64 times
 pub all-same : (v i : ℕ) → i < 64 → sampleAt (replicate 64 v) i ≡ v

@@ -5,9 +5,9 @@ use lib.IntN.{ℤ, pos}
 use mir.Syntax.{w16}
 use Rattle.scalar.specs.Scalar.{addOf, sraOf, packusOf}
 use Rattle.scalar.proofs.Laws.{lane2}
-use Rattle.paint.specs.Samples.{flatSample}
-use Rattle.paint.proofs.flat.Statement.{statement}
-use Rattle.paint.proofs.flat.Tie as tie
+use Rattle.samples.specs.Samples.{flatSample}
+use Rattle.samples.proofs.flat.Statement.{statement}
+use Rattle.samples.proofs.flat.Tie as tie
 
 returns : tie.Need-returns
 unfolding flatSample
