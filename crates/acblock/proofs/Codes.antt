@@ -14,7 +14,7 @@ use Rattle.scalar.specs.Scalar.{sllOf}
 use Rattle.bits.specs.Bits.{bitsOf, valueCode}
 use Rattle.bits.specs.Signed.{codeOf}
 use Rattle.bits.proofs.SignedBack.{code-le, code-value}
-use Rattle.slice.specs.Streams.{halfStep, stepCode}
+use Rattle.calls.specs.Streams.{halfStep, stepCode}
 use Rattle.bitacc.specs.Put.{Room, Put}
 use Rattle.bitacc.specs.declared.BitAcc.{BitAcc}
 

@@ -8,7 +8,7 @@ use lib.IntN.{ℤ, pos, negsuc, natAbs}
 use lib.ListN.{length}
 use Rattle.bits.specs.Bits.{valueCode, runCode}
 use Rattle.bits.specs.Signed.{codeOf}
-use Rattle.slice.specs.Streams.{symbolCodes, withDc}
+use Rattle.calls.specs.Streams.{symbolCodes, withDc}
 use Rattle.acblock.specs.Places.{placesCodes, waitingAfter}
 
 regroup : (r v p s : List Bool) {x : List Bool} → x ≡ p ++ s → r ++ (v ++ x) ≡ ((r ++ v) ++ p) ++ s

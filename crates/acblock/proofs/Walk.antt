@@ -15,7 +15,7 @@ use Rattle.scalar.specs.Tab.{lane}
 use Rattle.bits.specs.Bits.{valueCode, runCode}
 use Rattle.bits.specs.Signed.{codeOf}
 use Rattle.shuffles.specs.Shuffles.{flag, nonzeroMask}
-use Rattle.slice.specs.Streams.{withDc}
+use Rattle.calls.specs.Streams.{withDc}
 use Rattle.bitacc.specs.Put.{Put, Room}
 use Rattle.bitacc.specs.declared.BitAcc.{BitAcc}
 use Rattle.acblock.specs.Places.{placesCodes, waitingAfter, Small}

@@ -6,7 +6,7 @@ ghost use lib.IntN.{pos, natAbs};
 ghost use lib.ListN.{length};
 ghost use Rattle.bits.specs.Signed.{codeOf};
 ghost use Rattle.shuffles.specs.Shuffles.{nonzeroMask};
-ghost use Rattle.slice.specs.Streams.{halfStep, codedDc, stepCode, withDc};
+ghost use Rattle.calls.specs.Streams.{halfStep, codedDc, stepCode, withDc};
 ghost use Rattle.bitacc.specs.Put.{Room, Put};
 ghost use Rattle.acblock.specs.Places.{placesCodes, waitingAfter, Small};
 use bitacc::BitAcc;

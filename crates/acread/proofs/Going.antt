@@ -7,7 +7,7 @@ use Rattle.bits.specs.Bits.{bitAt}
 use Rattle.bitreader.specs.Cursor.{At, NextSymbol}
 use Rattle.bitreader.specs.declared.AcCursor.{AcCursor}
 use Rattle.bitreader.specs.declared.Got.{Got}
-use Rattle.slice.specs.ReadPlane.{readPlaces}
+use Rattle.calls.specs.ReadPlane.{readPlaces}
 use Rattle.acread.specs.Block.{spanOf, endsOf, BlockEnded, Ready, ends, badEnds, endSays}
 use Rattle.acread.specs.declared.BlockEnd.{BlockEnd}
 use Rattle.acread.specs.declared.BlockEnd.the-variants as end

@@ -6,7 +6,7 @@ use lib.IntN.{ℤ, pos}
 use Rattle.bits.specs.Bits.{Stream}
 use Rattle.bits.specs.Read.{Symbol, badSymbol, run, value, readSymbol}
 use Rattle.bitreader.specs.Cursor.{symbolBy}
-use Rattle.slice.specs.ReadPlane.{Places, badPlaces, places, placeThen, bySymbol, readPlaces}
+use Rattle.calls.specs.ReadPlane.{Places, badPlaces, places, placeThen, bySymbol, readPlaces}
 use Rattle.acread.specs.Block.{spanOf, Ends, badEnds, ends, endsOf}
 
 then-ends : (c : ℤ) (x : Places) → endsOf (placeThen c x) ≡ endsOf x

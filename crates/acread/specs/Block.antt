@@ -5,7 +5,7 @@ use Prim.Native.Nat.{ℕ, zero, suc, _+_, _^_, _≤_, _<_}
 use Rattle.bits.specs.Bits.{bitAt}
 use Rattle.bitreader.specs.Cursor.{At}
 use Rattle.bitreader.specs.declared.AcCursor.{AcCursor}
-use Rattle.slice.specs.ReadPlane.{Places, badPlaces, places, readPlaces}
+use Rattle.calls.specs.ReadPlane.{Places, badPlaces, places, readPlaces}
 use Rattle.acread.specs.declared.BlockEnd.{BlockEnd}
 use Rattle.acread.specs.declared.BlockEnd.the-variants as end
 

@@ -4,7 +4,7 @@ ghost use mathlib.Core.List.{[], _∷_};
 ghost use Prim.Native.Nat.{_/_};
 ghost use lib.Dec.{leb};
 ghost use lib.ListN.{take};
-ghost use Rattle.slice.specs.Questions.{strideOk, rowsNeeded};
+ghost use Rattle.calls.specs.Questions.{strideOk, rowsNeeded};
 ghost use Rattle.askfour.specs.Firsts.{allOf, sumOf};
 
 // Whether the first `count` of four answers are yes.

@@ -3,7 +3,7 @@ ghost use mathlib.Core.Path.{_≡_};
 ghost use mathlib.Core.Bool.{_&&_};
 ghost use Prim.Native.Nat.{_+_, _*_, _<_};
 ghost use lib.Dec.{leb};
-ghost use Rattle.slice.specs.Questions.{strideOk, rowsNeeded, countOk, startOk, dcLengthOk, acLengthOk};
+ghost use Rattle.calls.specs.Questions.{strideOk, rowsNeeded, countOk, startOk, dcLengthOk, acLengthOk};
 
 // Both answers are yes.
 pub fn both(x: bool, y: bool) -> bool

@@ -3,8 +3,8 @@ use mathlib.Core.Bool.{Bool}
 use mathlib.Core.List.{List, [], _∷_, _++_}
 use Prim.Native.Nat.{ℕ, _*_}
 use Rattle.ask.specs.Ask.{Question, ask}
-use Rattle.slice.specs.Arguments.{PerStream}
-use Rattle.slice.specs.Questions.{presetQuestion, shiftQuestion, together, fits, codingStartsQuestion, readingStartsQuestion}
+use Rattle.calls.specs.Arguments.{PerStream}
+use Rattle.calls.specs.Questions.{presetQuestion, shiftQuestion, together, fits, codingStartsQuestion, readingStartsQuestion}
 
 abbrev pub perStream : ℕ → ℕ → PerStream
 perStream d a = record { dc = d; ac = a }

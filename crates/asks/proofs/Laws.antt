@@ -7,8 +7,8 @@ use native.Mathlib.Omega.{arith}
 use lib.Dec.{leb}
 use lib.ListN.{length, take}
 use Rattle.ask.specs.Ask.{ask, firstNo}
-use Rattle.slice.specs.Arguments.{Settings, Plane, Call, settingsOf, planesOf, PerStream}
-use Rattle.slice.specs.Questions.{presetQuestion, shiftQuestion, whichPlanesOk, strideOk, rowsNeeded, rowsOk, each, together, roomForAll, fits, codingStartsQuestion, readingStartsQuestion, codingQuestions, readingQuestions}
+use Rattle.calls.specs.Arguments.{Settings, Plane, Call, settingsOf, planesOf, PerStream}
+use Rattle.calls.specs.Questions.{presetQuestion, shiftQuestion, whichPlanesOk, strideOk, rowsNeeded, rowsOk, each, together, roomForAll, fits, codingStartsQuestion, readingStartsQuestion, codingQuestions, readingQuestions}
 use Rattle.askfour.specs.Firsts.{allOf, sumOf}
 use Rattle.askorder.specs.Order.{roomOf, codingBy, readingBy}
 use Rattle.asks.specs.ByNumbers.{columnsIn}

@@ -8,8 +8,8 @@ use lib.Dec.{leb, eqb}
 use lib.ListN.{length}
 use borrow.Author.Tests.{leb-true, eqb-true}
 use Rattle.ask.specs.Ask.{Question, ask, firstNo}
-use Rattle.slice.specs.Arguments.{Plane, Call, onePlane, oneSlice, settingsOf, planesOf, PerStream}
-use Rattle.slice.specs.Questions.{whichPlanesOk, strideOk, rowsNeeded, rowsOk, each, together, roomForAll, fits, startOk, dcLengthOk, acLengthOk, codingQuestions, readingQuestions}
+use Rattle.calls.specs.Arguments.{Plane, Call, onePlane, oneSlice, settingsOf, planesOf, PerStream}
+use Rattle.calls.specs.Questions.{whichPlanesOk, strideOk, rowsNeeded, rowsOk, each, together, roomForAll, fits, startOk, dcLengthOk, acLengthOk, codingQuestions, readingQuestions}
 use Rattle.askorder.proofs.Laws.{passed}
 use Rattle.asks.specs.ByNumbers.{columnsIn}
 

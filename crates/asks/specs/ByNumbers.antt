@@ -1,8 +1,8 @@
 -- Calls on planes and slices by what they are given. Document 01, 'The questions before any work'.
 use mathlib.Core.List.{List, [], _∷_}
 use Prim.Native.Nat.{ℕ, _+_}
-use Rattle.slice.specs.Arguments.{Depth, Plane, Call, onePlane, oneSlice}
-use Rattle.slice.specs.Plane.{columnsOf}
+use Rattle.calls.specs.Arguments.{Depth, Plane, Call, onePlane, oneSlice}
+use Rattle.calls.specs.Grid.{columnsOf}
 
 abbrev pub planeCall : Depth → (preset shift place stride : ℕ) → List ℕ → Call
 planeCall depth preset shift place stride samples =

@@ -5,8 +5,8 @@ ghost use mathlib.Core.List.{List};
 ghost use Prim.Native.Nat.{ℕ};
 ghost use lib.ListN.{length};
 ghost use Rattle.ask.specs.Ask.{firstNo};
-ghost use Rattle.slice.specs.Arguments.{Depth};
-ghost use Rattle.slice.specs.Questions.{codingQuestions, readingQuestions};
+ghost use Rattle.calls.specs.Arguments.{Depth};
+ghost use Rattle.calls.specs.Questions.{codingQuestions, readingQuestions};
 ghost use Rattle.askorder.specs.Order.{perStream};
 ghost use Rattle.asks.specs.ByNumbers.{planeCall, sliceCall};
 

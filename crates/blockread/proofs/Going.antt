@@ -12,7 +12,7 @@ use Rattle.bits.specs.Signed.{signedOf}
 use Rattle.bitreader.specs.Cursor.{At, NextSymbol}
 use Rattle.bitreader.specs.declared.AcCursor.{AcCursor}
 use Rattle.bitreader.specs.declared.Got.{Got}
-use Rattle.slice.specs.ReadPlane.{places, readPlaces}
+use Rattle.calls.specs.ReadPlane.{places, readPlaces}
 use Rattle.tables.specs.Zigzag.{zigzagAt}
 use Rattle.quant.specs.Quantise.{scanOf}
 use Rattle.quant.proofs.Blocks.{scan-length}

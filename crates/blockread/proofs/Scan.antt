@@ -15,7 +15,7 @@ use Rattle.tables.specs.Zigzag.{zigzag, zigzagAt, unzigzagAt}
 use Rattle.tables.proofs.Scan.{unzigzag-zigzag, zigzag-below, zigzag-first}
 use Rattle.quant.specs.Quantise.{coefficient, scanOf}
 use Rattle.quant.proofs.Blocks.{scan-at, scan-length, scan-first}
-use Rattle.slice.specs.Streams.{dcOf, withDc}
+use Rattle.calls.specs.Streams.{dcOf, withDc}
 
 pub scan-zero : scanOf (replicate 64 (pos 0)) ≡ replicate 64 (pos 0)
 unfolding scanOf tabFrom zigzag

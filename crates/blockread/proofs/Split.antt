@@ -14,8 +14,8 @@ use Rattle.bits.specs.Bits.{Stream, bitAt, bytesFor}
 use Rattle.bitreader.specs.Cursor.{NextDc}
 use Rattle.bitreader.specs.declared.Got.{Got}
 use Rattle.quant.specs.Quantise.{coefficient, scanOf}
-use Rattle.slice.specs.Streams.{dcOf, withDc}
-use Rattle.slice.specs.ReadPlane.{places, readPlaces, BlockRead, Blocks, badBlocks, blocks, blockThen, readBlocks, DcStep, DcSteps, badSteps, dcSteps, stepThen, readSteps, settle, predicted, planeRead, bothStreams, readPlane}
+use Rattle.calls.specs.Streams.{dcOf, withDc}
+use Rattle.calls.specs.ReadPlane.{places, readPlaces, BlockRead, Blocks, badBlocks, blocks, blockThen, readBlocks, DcStep, DcSteps, badSteps, dcSteps, stepThen, readSteps, settle, predicted, planeRead, bothStreams, readPlane}
 use Rattle.preview.specs.Row.{stepOf, goodSteps}
 use Rattle.preview.proofs.Steps.{steps-next, some}
 use Rattle.blockread.specs.On.{onStreams, readOn, blockFirst, NextBlock}

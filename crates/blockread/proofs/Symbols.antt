@@ -11,7 +11,7 @@ use Rattle.bits.specs.Bits.{Stream}
 use Rattle.bits.specs.Read.{badSymbol, run, value, readSymbol}
 use Rattle.bits.specs.Signed.{signedOf}
 use Rattle.bitreader.specs.Cursor.{symbolBy}
-use Rattle.slice.specs.ReadPlane.{Places, badPlaces, places, placeThen, readPlaces}
+use Rattle.calls.specs.ReadPlane.{Places, badPlaces, places, placeThen, readPlaces}
 use Rattle.blockread.specs.Places.{goodPlaces}
 
 -- coefficients before those of the places read

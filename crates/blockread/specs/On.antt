@@ -10,7 +10,7 @@ use mir.Val.{SFits}
 use Rattle.bits.specs.Bits.{bitAt, bytesFor}
 use Rattle.bitreader.specs.Cursor.{At}
 use Rattle.quant.specs.Quantise.{scanOf}
-use Rattle.slice.specs.ReadPlane.{BlockRead, Blocks, badBlocks, blocks, readBlocks, DcSteps, badSteps, dcSteps, readSteps, predicted, acDcs, withDcs, PlaneRead, badPlane, planeRead}
+use Rattle.calls.specs.ReadPlane.{BlockRead, Blocks, badBlocks, blocks, readBlocks, DcSteps, badSteps, dcSteps, readSteps, predicted, acDcs, withDcs, PlaneRead, badPlane, planeRead}
 use Rattle.blockread.specs.declared.Stand.{Stand}
 use Rattle.blockread.specs.declared.BlockGot.{BlockGot}
 

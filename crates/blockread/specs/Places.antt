@@ -7,7 +7,7 @@ use lib.ListN.{length}
 use Rattle.bits.specs.Bits.{bitAt}
 use Rattle.bitreader.specs.Cursor.{At}
 use Rattle.quant.specs.Quantise.{scanOf}
-use Rattle.slice.specs.ReadPlane.{Places, badPlaces, places, readPlaces}
+use Rattle.calls.specs.ReadPlane.{Places, badPlaces, places, readPlaces}
 use Rattle.blockread.specs.declared.AcGot.{AcGot}
 
 -- no bad code

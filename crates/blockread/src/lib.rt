@@ -6,7 +6,7 @@ ghost use Prim.Native.Nat.{_*_, _^_, _<_};
 ghost use Rattle.bits.specs.Bits.{bitAt, bytesFor};
 ghost use Rattle.bitreader.specs.Cursor.{At};
 ghost use Rattle.tables.specs.Zigzag.{zigzag};
-ghost use Rattle.slice.specs.ReadPlane.{readPlaces};
+ghost use Rattle.calls.specs.ReadPlane.{readPlaces};
 ghost use Rattle.blockread.specs.On.{Ready, NextBlock, readOn, goodPlane};
 ghost use Rattle.blockread.specs.Places.{goodPlaces, Placed};
 use bitreader::AcCursor;

@@ -5,9 +5,10 @@ use mathlib.Core.List.{List, [], _∷_}
 use Prim.Native.Nat.{ℕ, _≤_, _<_}
 use native.Mathlib.Omega.{arith}
 use lib.ListN.{length}
-use Rattle.slice.specs.Arguments.{Depth, PerStream, Buffers}
-use Rattle.slice.specs.ReadPlane.{PlaneRead, badPlane, planeRead, readPlane}
-use Rattle.slice.specs.Plane.{blocksOf, reconstruct}
+use Rattle.calls.specs.Arguments.{Depth, PerStream, Buffers}
+use Rattle.calls.specs.ReadPlane.{PlaneRead, badPlane, planeRead, readPlane}
+use Rattle.calls.specs.Grid.{blocksOf}
+use Rattle.slice.specs.Plane.{reconstruct}
 use Rattle.slice.specs.Calls.{PlanesRead, planesRead, byPlane, readPlanes, Decoded, rowsMade, decode, decodePlane}
 use Rattle.planebits.specs.declared.Ends.{Ends}
 use Rattle.encplane.specs.Coding.{settings, plane}

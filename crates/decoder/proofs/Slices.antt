@@ -3,7 +3,7 @@ use mathlib.Core.Path.{_≡_, refl, sym, ap, _∙_}
 use mathlib.Core.List.{List, [], _∷_}
 use Prim.Native.Nat.{ℕ, _≤_, _<_}
 use lib.ListN.{length}
-use Rattle.slice.specs.Arguments.{Settings, Plane, planesOf, PerStream, Buffers}
+use Rattle.calls.specs.Arguments.{Settings, Plane, planesOf, PerStream, Buffers}
 use Rattle.slice.specs.Calls.{Decoded, decode}
 use Rattle.planebits.specs.declared.Ends.{Ends}
 use Rattle.encplane.specs.Coding.{settings}

@@ -8,7 +8,7 @@ use native.Mathlib.Omega.{arith}
 use lib.IntN.{pos}
 use lib.ListN.{getD}
 use Rattle.bits.specs.Bits.{bytesFor}
-use Rattle.slice.specs.ReadPlane.{BlockRead, PlaneRead, planeRead, readPlane}
+use Rattle.calls.specs.ReadPlane.{BlockRead, PlaneRead, planeRead, readPlane}
 use Rattle.blockread.specs.On.{readOn, goodPlane, blockFirst, blockOf, Ready, NextBlock}
 use Rattle.blockread.specs.declared.Stand.{Stand}
 use Rattle.blockread.specs.declared.BlockGot.{BlockGot}

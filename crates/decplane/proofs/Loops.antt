@@ -10,9 +10,10 @@ use lib.ListN.{length, getD, take, drop}
 use Rattle.bits.specs.Bits.{bytesFor}
 use Rattle.tables.specs.Zigzag.{zigzag}
 use Rattle.paint.specs.Paint.{sampleAt, storeBlock}
-use Rattle.slice.specs.Arguments.{Depth, Plane}
-use Rattle.slice.specs.ReadPlane.{BlockRead, readPlane}
-use Rattle.slice.specs.Plane.{columnsOf, blocksOf, blockSamples}
+use Rattle.calls.specs.Arguments.{Depth, Plane}
+use Rattle.calls.specs.ReadPlane.{BlockRead, readPlane}
+use Rattle.calls.specs.Grid.{columnsOf, blocksOf}
+use Rattle.slice.specs.Plane.{blockSamples}
 use Rattle.planebits.specs.declared.Ends.{Ends}
 use Rattle.encplane.specs.Coding.{settings}
 use Rattle.planes.proofs.Laws.{corner-fits}

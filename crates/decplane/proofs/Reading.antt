@@ -7,7 +7,7 @@ use native.Mathlib.Omega.{arith}
 use lib.IntN.{pos}
 use lib.ListN.{getD, drop}
 use Rattle.bits.specs.Bits.{bytesFor}
-use Rattle.slice.specs.ReadPlane.{BlockRead, PlaneRead, badPlane, planeRead, readPlane}
+use Rattle.calls.specs.ReadPlane.{BlockRead, PlaneRead, badPlane, planeRead, readPlane}
 use Rattle.blockread.specs.On.{readOn, goodPlane, blockFirst}
 use Rattle.blockread.specs.declared.Stand.{Stand}
 use Rattle.blockread.proofs.Split.{read-plane, read-none}

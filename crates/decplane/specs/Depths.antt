@@ -6,9 +6,10 @@ use Prim.Native.Nat.{ℕ, _-_}
 use lib.IntN.{ℤ}
 use lib.ListN.{length, take, drop}
 use Rattle.paint.specs.Paint.{storeBlock, sampleAt}
-use Rattle.slice.specs.Arguments.{Depth, eight, ten}
-use Rattle.slice.specs.ReadPlane.{BlockRead}
-use Rattle.slice.specs.Plane.{level, blockSamples}
+use Rattle.calls.specs.Arguments.{Depth, eight, ten}
+use Rattle.calls.specs.ReadPlane.{BlockRead}
+use Rattle.calls.specs.Grid.{level}
+use Rattle.slice.specs.Plane.{blockSamples}
 
 abbrev pub depthOf : Bool → Depth
 depthOf false = eight

@@ -4,9 +4,10 @@ use mathlib.Core.Bool.{true}
 use mathlib.Core.List.{List, []}
 use Prim.Native.Nat.{ℕ, _+_, _*_, _%_, _^_, _≤_, _<_}
 use lib.ListN.{length}
-use Rattle.slice.specs.Arguments.{Settings, Plane}
-use Rattle.slice.specs.ReadPlane.{BlockRead, PlaneRead, badPlane, planeRead, readPlane}
-use Rattle.slice.specs.Plane.{blocksOf, reconstruct}
+use Rattle.calls.specs.Arguments.{Settings, Plane}
+use Rattle.calls.specs.ReadPlane.{BlockRead, PlaneRead, badPlane, planeRead, readPlane}
+use Rattle.calls.specs.Grid.{blocksOf}
+use Rattle.slice.specs.Plane.{reconstruct}
 use Rattle.planebits.specs.declared.Ends.{Ends}
 use Rattle.blockread.specs.On.{goodPlane}
 

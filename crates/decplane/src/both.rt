@@ -5,7 +5,7 @@ ghost use mathlib.Core.Bool.{not};
 ghost use Prim.Native.Nat.{_+_, _*_, _≤_, _<_};
 ghost use lib.ListN.{length};
 ghost use Rattle.tables.specs.Divisor.{divisorsOf};
-ghost use Rattle.slice.specs.Plane.{level};
+ghost use Rattle.calls.specs.Grid.{level};
 ghost use Rattle.encplane.specs.Coding.{settings, plane};
 ghost use Rattle.painted.specs.Block.{natural};
 ghost use Rattle.decplane.specs.Depths.{depthOf, rowsOf, PaintedAt};

@@ -2,7 +2,7 @@
 // each block is read from both streams and painted at its corner.
 mod both;
 
-ghost use Rattle.slice.specs.Arguments.{eight, ten};
+ghost use Rattle.calls.specs.Arguments.{eight, ten};
 ghost use Rattle.encplane.specs.Coding.{settings, plane};
 ghost use Rattle.decplane.specs.Storing.{PlaneGood, PlaneStored};
 use planebits::Ends;

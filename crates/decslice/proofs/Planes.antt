@@ -5,9 +5,10 @@ use mathlib.Core.List.{List, [], _∷_}
 use Prim.Native.Nat.{ℕ, zero, suc, _+_, _-_, _^_, _≤_, _<_}
 use native.Mathlib.Omega.{arith}
 use lib.ListN.{take}
-use Rattle.slice.specs.Arguments.{Settings, Plane, PerStream, Buffers}
-use Rattle.slice.specs.ReadPlane.{BlockRead, PlaneRead, badPlane, planeRead, readPlane}
-use Rattle.slice.specs.Plane.{blocksOf, reconstruct}
+use Rattle.calls.specs.Arguments.{Settings, Plane, PerStream, Buffers}
+use Rattle.calls.specs.ReadPlane.{BlockRead, PlaneRead, badPlane, planeRead, readPlane}
+use Rattle.calls.specs.Grid.{blocksOf}
+use Rattle.slice.specs.Plane.{reconstruct}
 use Rattle.slice.specs.Calls.{PlanesRead, badPlanes, planesRead, planeThen, byPlane, readPlanes}
 use Rattle.planebits.specs.declared.Ends.{Ends}
 use Rattle.blockread.specs.On.{goodPlane}

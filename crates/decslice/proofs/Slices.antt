@@ -4,8 +4,8 @@ use mathlib.Core.List.{List, [], _∷_}
 use Prim.Native.Nat.{ℕ, _+_, _-_, _^_, _≤_, _<_}
 use native.Mathlib.Omega.{arith}
 use lib.ListN.{take}
-use Rattle.slice.specs.Arguments.{Settings, Rows, Plane, planeAt, oneSlice, planesLent, planesOf, PerStream}
-use Rattle.slice.specs.ReadPlane.{BlockRead}
+use Rattle.calls.specs.Arguments.{Settings, Rows, Plane, planeAt, oneSlice, planesLent, planesOf, PerStream}
+use Rattle.calls.specs.ReadPlane.{BlockRead}
 use Rattle.slice.specs.Plane.{reconstruct}
 use Rattle.slice.specs.Calls.{PlanesRead, badPlanes, planesRead, readPlanes, rowsMade, rowsOf}
 use Rattle.planebits.specs.declared.Ends.{Ends}

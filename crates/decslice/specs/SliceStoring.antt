@@ -4,8 +4,8 @@ use mathlib.Core.Bool.{true}
 use mathlib.Core.List.{List, [], _∷_}
 use Prim.Native.Nat.{ℕ, _*_, _%_, _≤_}
 use lib.ListN.{length}
-use Rattle.slice.specs.Arguments.{Settings, Rows, Plane, oneSlice, planesLent, planesOf}
-use Rattle.slice.specs.ReadPlane.{BlockRead}
+use Rattle.calls.specs.Arguments.{Settings, Rows, Plane, oneSlice, planesLent, planesOf}
+use Rattle.calls.specs.ReadPlane.{BlockRead}
 use Rattle.slice.specs.Calls.{PlanesRead, badPlanes, planesRead, readPlanes, rowsMade}
 use Rattle.planebits.specs.declared.Ends.{Ends}
 use Rattle.judge.specs.Good.{goodPlanes, buffers, positions}

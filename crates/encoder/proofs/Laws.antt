@@ -6,10 +6,10 @@ use native.Mathlib.Omega.{arith}
 use lib.ListN.{length}
 use Rattle.bits.specs.Lay.{lay}
 use Rattle.ask.specs.Ask.{firstNo}
-use Rattle.slice.specs.Arguments.{Depth, Plane, Call, settingsOf, planesOf}
-use Rattle.slice.specs.Streams.{dcStream, acStream}
+use Rattle.calls.specs.Arguments.{Depth, Plane, Call, settingsOf, planesOf}
+use Rattle.calls.specs.Streams.{dcStream, acStream}
 use Rattle.slice.specs.Plane.{coefficients}
-use Rattle.slice.specs.Questions.{codingQuestions}
+use Rattle.calls.specs.Questions.{codingQuestions}
 use Rattle.slice.specs.Calls.{lengthsOf, ownStreams, encode, encodePlane}
 use Rattle.asks.specs.ByNumbers.{planeCall, sliceCall}
 use Rattle.asks.proofs.Passed.{LegalPlane, Every, coding-legal}

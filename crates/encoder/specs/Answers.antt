@@ -1,7 +1,7 @@
 -- The answers of the coding calls. Document 01, 'The questions before any work'.
 use mathlib.Core.List.{List}
 use Prim.Native.Nat.{ℕ}
-use Rattle.slice.specs.Arguments.{PerStream, Buffers}
+use Rattle.calls.specs.Arguments.{PerStream, Buffers}
 use Rattle.slice.specs.Calls.{Coded}
 use Rattle.encoder.specs.declared.CodeAnswer.{CodeAnswer}
 use Rattle.encoder.specs.declared.CodeAnswer.the-variants.{Refused, Accepted}

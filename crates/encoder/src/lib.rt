@@ -1,7 +1,7 @@
 // The coding calls of planes and slices: the questions in their order, then the coder. Any arguments whatever are allowed:
 // a call that meets a "no" answers its number and the positions that it was given, and has written nothing.
 ghost use mathlib.Core.Path.{_≡_};
-ghost use Rattle.slice.specs.Arguments.{eight, ten};
+ghost use Rattle.calls.specs.Arguments.{eight, ten};
 ghost use Rattle.slice.specs.Calls.{encodePlane, encodeSlice};
 ghost use Rattle.encplane.specs.Coding.{settings, plane};
 ghost use Rattle.encslice.specs.SliceCoding.{rows};

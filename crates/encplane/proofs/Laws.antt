@@ -11,8 +11,9 @@ use lib.Seq.{getD-drop}
 use Rattle.scalar.proofs.Fill.{tab-ext}
 use Rattle.fdct.specs.Forward.{forwardOf, lanes8Of, lanes16Of}
 use Rattle.quant.specs.Quantise.{quantiseOf, scanOf}
-use Rattle.slice.specs.Arguments.{eight, ten}
-use Rattle.slice.specs.Plane.{level, lanesAt, blockCoefficients}
+use Rattle.calls.specs.Arguments.{eight, ten}
+use Rattle.calls.specs.Grid.{level}
+use Rattle.slice.specs.Plane.{lanesAt, blockCoefficients}
 use Rattle.encplane.specs.Coding.{plane}
 
 index : (j y stride k w : ℕ) → (8 * j + y) * stride + (8 * k + w) ≡ 8 * j * stride + 8 * k + (y * stride + w)

@@ -9,10 +9,12 @@ use lib.IntN.{ℤ, pos}
 use lib.ListN.{length, length-append}
 use Rattle.scalar.specs.Tab.{tab, tabFrom}
 use Rattle.scalar.proofs.Fill.{length-tab}
-use Rattle.slice.specs.Arguments.{Depth, Settings, Plane}
-use Rattle.slice.specs.Streams.{dcStream, acStream}
-use Rattle.slice.specs.Plane.{columnsOf, blocksOf, blockCoefficients, coefficientsAt, coefficients}
-use Rattle.slice.proofs.Law.{Quantised, quantised}
+use Rattle.calls.specs.Arguments.{Depth, Settings, Plane}
+use Rattle.calls.specs.Streams.{dcStream, acStream}
+use Rattle.calls.specs.Grid.{columnsOf, blocksOf}
+use Rattle.slice.specs.Plane.{blockCoefficients, coefficientsAt, coefficients}
+use Rattle.calls.proofs.Fits.{Quantised}
+use Rattle.slice.proofs.Law.{quantised}
 use Rattle.planebits.specs.declared.PlaneState.{PlaneState}
 use Rattle.planebits.specs.declared.Ends.{Ends}
 use Rattle.planebits.specs.Coded.{startOf, PlaneCoded, BlockRoom, EndRoom, Ended}

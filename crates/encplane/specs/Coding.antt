@@ -4,9 +4,10 @@ use mathlib.Core.List.{List}
 use Prim.Native.Nat.{ℕ, _+_, _*_, _%_, _≤_}
 use lib.ListN.{length}
 use Rattle.bits.specs.Lay.{lay}
-use Rattle.slice.specs.Arguments.{Depth, Settings, Plane}
-use Rattle.slice.specs.Streams.{dcStream, acStream}
-use Rattle.slice.specs.Plane.{blocksOf, coefficients}
+use Rattle.calls.specs.Arguments.{Depth, Settings, Plane}
+use Rattle.calls.specs.Streams.{dcStream, acStream}
+use Rattle.calls.specs.Grid.{blocksOf}
+use Rattle.slice.specs.Plane.{coefficients}
 use Rattle.planebits.specs.declared.Ends.{Ends}
 
 abbrev pub settings : Depth → ℕ → ℕ → Settings

@@ -1,6 +1,6 @@
 // The plane coder (encode_plane of slice.rs) on planes that the questions let through: blocks left to right, upper eight rows first;
 // each block's coefficients go straight into both streams.
-ghost use Rattle.slice.specs.Arguments.{eight, ten};
+ghost use Rattle.calls.specs.Arguments.{eight, ten};
 ghost use Rattle.encplane.specs.Coding.{settings, plane, PlaneOk, PlaneDone};
 use planebits::Ends;
 

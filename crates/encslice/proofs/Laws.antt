@@ -7,10 +7,11 @@ use native.Mathlib.Omega.{arith}
 use lib.ListN.{length, take, length-append}
 use Rattle.bits.specs.Lay.{lay}
 use Rattle.bits.proofs.LayLaw.{lay-none, lay-length, lay-lay}
-use Rattle.slice.specs.Arguments.{Settings, Plane}
-use Rattle.slice.specs.Streams.{dcStream, acStream}
-use Rattle.slice.specs.Plane.{blocksOf, coefficients}
-use Rattle.slice.specs.Questions.{roomForAll}
+use Rattle.calls.specs.Arguments.{Settings, Plane}
+use Rattle.calls.specs.Streams.{dcStream, acStream}
+use Rattle.calls.specs.Grid.{blocksOf}
+use Rattle.slice.specs.Plane.{coefficients}
+use Rattle.calls.specs.Questions.{roomForAll}
 use Rattle.slice.specs.Calls.{ownStreams}
 use Rattle.slice.proofs.Law.{dc-fits, ac-fits}
 use Rattle.planebits.specs.declared.Ends.{Ends}

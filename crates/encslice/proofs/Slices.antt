@@ -4,7 +4,7 @@ use mathlib.Core.List.{List, []}
 use Prim.Native.Nat.{ℕ, suc, _≤_, _<_}
 use native.Mathlib.Omega.{arith}
 use lib.ListN.{take}
-use Rattle.slice.specs.Arguments.{Settings, Rows, Plane, planeAt, oneSlice, planesLent}
+use Rattle.calls.specs.Arguments.{Settings, Rows, Plane, planeAt, oneSlice, planesLent}
 use Rattle.planebits.specs.declared.Ends.{Ends}
 use Rattle.encplane.specs.Coding.{PlaneOk, PlaneDone}
 use Rattle.encslice.specs.SliceCoding.{PlanesOk, SliceOk, SliceDone}

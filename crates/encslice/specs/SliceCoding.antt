@@ -4,8 +4,8 @@ use mathlib.Core.List.{List, [], _∷_}
 use Prim.Native.Nat.{ℕ, _+_, _*_, _%_, _≤_}
 use lib.ListN.{length}
 use Rattle.bits.specs.Lay.{lay}
-use Rattle.slice.specs.Arguments.{Settings, Rows, Plane, oneSlice, planesOf}
-use Rattle.slice.specs.Questions.{roomForAll}
+use Rattle.calls.specs.Arguments.{Settings, Rows, Plane, oneSlice, planesOf}
+use Rattle.calls.specs.Questions.{roomForAll}
 use Rattle.slice.specs.Calls.{ownStreams}
 use Rattle.planebits.specs.declared.Ends.{Ends}
 

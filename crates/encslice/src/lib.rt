@@ -1,6 +1,6 @@
 // The slice coder (encode_one_slice of encoder.rs) on slices that the questions let through: the first `count` of four planes in order,
 // each from where the streams of the plane before end. The planes' places are their index.
-ghost use Rattle.slice.specs.Arguments.{eight, ten};
+ghost use Rattle.calls.specs.Arguments.{eight, ten};
 ghost use Rattle.encplane.specs.Coding.{settings};
 ghost use Rattle.encslice.specs.SliceCoding.{rows, SliceOk, SliceDone};
 use planebits::Ends;

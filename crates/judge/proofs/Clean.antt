@@ -11,8 +11,8 @@ use Rattle.bits.specs.Bits.{Stream, bitAt}
 use Rattle.bits.specs.Read.{readSymbol, readDc}
 use Rattle.bitscan.specs.Six.{noSixZeros}
 use Rattle.bitscan.proofs.Codes.{SymbolTo, DcTo, symbol-to, code-to, no-symbol, no-dc}
-use Rattle.slice.specs.ReadPlane.{Blocks, badBlocks, blocks, readBlocks, DcSteps, badSteps, dcSteps, readSteps}
-use Rattle.slice.specs.Plane.{blocksOf}
+use Rattle.calls.specs.ReadPlane.{Blocks, badBlocks, blocks, readBlocks, DcSteps, badSteps, dcSteps, readSteps}
+use Rattle.calls.specs.Grid.{blocksOf}
 use Rattle.preview.specs.Row.{dcEnd}
 use Rattle.preview.proofs.Ends.{StepsTo, steps-to}
 use Rattle.report.specs.Report.{acEnd}

@@ -8,12 +8,12 @@ use lib.Dec.{T}
 use lib.ListN.{take, getD}
 use lib.Seq.{take-nil, getD-take}
 use Rattle.bits.specs.Bits.{bitAt, bytesFor}
-use Rattle.slice.specs.Arguments.{Settings, Rows, Plane, oneSlice, planesOf, PerStream, Buffers}
-use Rattle.slice.specs.ReadPlane.{BlockRead, Blocks, badBlocks, blocks, readBlocks, DcSteps, badSteps, dcSteps, readSteps, bothStreams, readPlane}
-use Rattle.slice.specs.Plane.{blocksOf}
-use Rattle.slice.specs.Questions.{each, strideOk}
+use Rattle.calls.specs.Arguments.{Settings, Rows, Plane, oneSlice, planesOf, PerStream, Buffers}
+use Rattle.calls.specs.ReadPlane.{BlockRead, Blocks, badBlocks, blocks, readBlocks, DcSteps, badSteps, dcSteps, readSteps, bothStreams, readPlane}
+use Rattle.calls.specs.Grid.{blocksOf}
+use Rattle.calls.specs.Questions.{each, strideOk}
 use Rattle.slice.specs.Calls.{PlanesRead, badPlanes, planesRead, planeThen, byPlane, readPlanes}
-use Rattle.slice.proofs.Asked.{and-l, and-r, stride-le}
+use Rattle.calls.proofs.Asked.{and-l, and-r, stride-le}
 use Rattle.preview.specs.Row.{goodSteps, dcEnd}
 use Rattle.report.specs.Report.{blockEnds, goodEnds, acEnd}
 use Rattle.blockread.specs.On.{goodPlane}

@@ -8,7 +8,7 @@ use native.Mathlib.Omega.{arith}
 use lib.ListN.{length, take, drop, getD, length-drop}
 use lib.Seq.{drop-cons, length-take-le, getD-take}
 use Rattle.ask.specs.Ask.{Answer, refused, accepted}
-use Rattle.slice.specs.Plane.{blocksOf}
+use Rattle.calls.specs.Grid.{blocksOf}
 use Rattle.judge.specs.Good.{goesOn, goodInTurn}
 use Rattle.judge.proofs.Clean.{AnswerTo, Spans, Clean}
 

@@ -4,9 +4,9 @@ use mathlib.Core.List.{List, [], _∷_}
 use Prim.Native.Nat.{ℕ, _*_}
 use Rattle.ask.specs.Ask.{Answer, refused, accepted}
 use Rattle.bits.specs.Bits.{bitAt}
-use Rattle.slice.specs.Arguments.{Plane, PerStream, Buffers}
-use Rattle.slice.specs.ReadPlane.{readSteps, readBlocks}
-use Rattle.slice.specs.Plane.{blocksOf}
+use Rattle.calls.specs.Arguments.{Plane, PerStream, Buffers}
+use Rattle.calls.specs.ReadPlane.{readSteps, readBlocks}
+use Rattle.calls.specs.Grid.{blocksOf}
 use Rattle.slice.specs.Calls.{PlanesRead, badPlanes, planesRead}
 use Rattle.preview.specs.Row.{dcEnd}
 use Rattle.report.specs.Report.{acEnd}

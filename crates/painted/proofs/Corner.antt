@@ -4,7 +4,8 @@ use Prim.Native.Nat.{ℕ, _+_, _*_, _/_, _%_, _<_, _≤_}
 use native.Mathlib.Nat.{add-mul, div-add-mod', div-lt-iff-lt-mul, mod-lt}
 use native.Mathlib.Omega.{arith}
 use lib.Arith.{digits-lt, digits-div, digits-mod}
-use Rattle.slice.specs.Plane.{columnsOf, blocksOf, blockAt, withinBlock}
+use Rattle.calls.specs.Grid.{columnsOf, blocksOf}
+use Rattle.slice.specs.Plane.{blockAt, withinBlock}
 
 -- blocks end where a row ends
 column-below : (stride i : ℕ) → stride % 8 ≡ 0 → i < 16 * stride → i % stride / 8 < columnsOf stride

@@ -13,9 +13,10 @@ use Rattle.quant.proofs.Blocks.{scan-first, natural-scan}
 use Rattle.idct.specs.Inverse.{inverseOf}
 use Rattle.idct.proofs.Bounds.{sample-at}
 use Rattle.dct.specs.Decode.{blockSample}
-use Rattle.slice.specs.Arguments.{Depth, eight, ten, isTen}
-use Rattle.slice.specs.Streams.{dcOf}
-use Rattle.slice.specs.Plane.{level, transformed, filledFlat, blockSamples}
+use Rattle.calls.specs.Arguments.{Depth, eight, ten, isTen}
+use Rattle.calls.specs.Streams.{dcOf}
+use Rattle.calls.specs.Grid.{level}
+use Rattle.slice.specs.Plane.{transformed, filledFlat, blockSamples}
 use Rattle.painted.specs.Block.{natural, BlockPainted}
 
 first : (l : List ℤ) → coefficient l 0 ≡ dcOf l

@@ -10,9 +10,10 @@ use lib.ListN.{length, getD, take, drop}
 use borrow.Author.Tests.{lt-ltb, le-ltb}
 use Rattle.paint.specs.Paint.{over, pickN, both, sampleAt, storeBlock}
 use Rattle.paint.proofs.Over.{by-eq, by-lt, getD-over, length-over, over-by, over-none, over-part, handed-back}
-use Rattle.slice.specs.Arguments.{Depth, Plane}
-use Rattle.slice.specs.ReadPlane.{BlockRead}
-use Rattle.slice.specs.Plane.{columnsOf, blocksOf, blockAt, withinBlock, blockSamples, sampleFrom, reconstructAt}
+use Rattle.calls.specs.Arguments.{Depth, Plane}
+use Rattle.calls.specs.ReadPlane.{BlockRead}
+use Rattle.calls.specs.Grid.{columnsOf, blocksOf}
+use Rattle.slice.specs.Plane.{blockAt, withinBlock, blockSamples, sampleFrom, reconstructAt}
 use Rattle.planes.proofs.Laws.{corner-fits}
 use Rattle.painted.specs.FirstBlocks.{paintedAt, firstBlocks, sampleIn, paintedRows}
 use Rattle.painted.proofs.Corner.{block-below, block-at, within-at, inside-at, not-before, only-here}

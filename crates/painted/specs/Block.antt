@@ -6,9 +6,10 @@ use Prim.Native.Nat.{ℕ}
 use lib.IntN.{ℤ}
 use Rattle.quant.specs.Quantise.{scanOf}
 use Rattle.paint.specs.Paint.{storeBlock, sampleAt}
-use Rattle.slice.specs.Arguments.{Depth, ten}
-use Rattle.slice.specs.ReadPlane.{BlockRead}
-use Rattle.slice.specs.Plane.{level, blockSamples}
+use Rattle.calls.specs.Arguments.{Depth, ten}
+use Rattle.calls.specs.ReadPlane.{BlockRead}
+use Rattle.calls.specs.Grid.{level}
+use Rattle.slice.specs.Plane.{blockSamples}
 
 -- a block read, by its coefficients in natural order
 abbrev pub natural : Bool → List ℤ → BlockRead

@@ -5,8 +5,8 @@ use Prim.Native.Nat.{ℕ, _*_}
 use lib.Dec.{ltb}
 use lib.ListN.{getD}
 use Rattle.paint.specs.Paint.{over}
-use Rattle.slice.specs.Arguments.{Depth, Plane}
-use Rattle.slice.specs.ReadPlane.{BlockRead}
+use Rattle.calls.specs.Arguments.{Depth, Plane}
+use Rattle.calls.specs.ReadPlane.{BlockRead}
 use Rattle.slice.specs.Plane.{blockAt, withinBlock, blockSamples}
 
 -- the sample at i once the first m blocks are painted, `sample` by block and place in it: that of its block, or what stood there

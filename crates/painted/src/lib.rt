@@ -4,8 +4,8 @@ ghost use mathlib.Core.Path.{_≡_};
 ghost use Prim.Native.Nat.{_+_, _*_, _≤_, _<_};
 ghost use lib.ListN.{length};
 ghost use Rattle.tables.specs.Divisor.{divisorsOf};
-ghost use Rattle.slice.specs.Arguments.{eight, ten};
-ghost use Rattle.slice.specs.Plane.{level};
+ghost use Rattle.calls.specs.Arguments.{eight, ten};
+ghost use Rattle.calls.specs.Grid.{level};
 ghost use Rattle.painted.specs.Block.{natural, BlockPainted, BlockPainted10};
 
 // The level of an 8-bit plane, as the painters take it.

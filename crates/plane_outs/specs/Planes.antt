@@ -3,7 +3,7 @@
 use mathlib.Core.List.{List}
 use Prim.Native.Nat.{ℕ}
 use Rattle.slice.specs.Calls.{Coded, Decoded}
-use Rattle.slice.specs.Previews.{Previewed, Reported, Sized}
+use Rattle.calls.specs.Previews.{Previewed, Reported, Sized}
 use Rattle.encoder.specs.Answers.{buffers, positions}
 
 -- a coding call: number, both positions, both buffers

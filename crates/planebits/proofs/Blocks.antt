@@ -8,7 +8,7 @@ use lib.IntN.{ℤ, pos, natAbs, _-ℤ_}
 use lib.ListN.{length}
 use Rattle.scalar.specs.Tab.{lane}
 use Rattle.bits.specs.Bits.{bitsOf}
-use Rattle.slice.specs.Streams.{codedDc, stepsFrom, stepCode, stepCodes, withDc}
+use Rattle.calls.specs.Streams.{codedDc, stepsFrom, stepCode, stepCodes, withDc}
 use Rattle.bitacc.specs.declared.BitAcc.{BitAcc}
 use Rattle.bitacc.specs.Put.{start, Wrote, Put, Room}
 use Rattle.bitacc.proofs.Writer.{wrote-start}

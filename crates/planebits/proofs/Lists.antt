@@ -7,7 +7,7 @@ use native.Mathlib.Omega.{arith}
 use lib.IntN.{ℤ, pos, negsuc, natAbs, _-ℤ_}
 use lib.ListN.{length, length-append}
 use Rattle.scalar.specs.Tab.{lane}
-use Rattle.slice.specs.Streams.{codedDc, stepsFrom, stepCode, stepCodes, dcOf, withDc, joined}
+use Rattle.calls.specs.Streams.{codedDc, stepsFrom, stepCode, stepCodes, dcOf, withDc, joined}
 use Rattle.planebits.specs.Coded.{codedDcs, places, lastOf}
 
 pub steps-append : (q : ℤ) (xs ys : List ℤ) → stepCodes (stepsFrom q (xs ++ ys)) ≡ stepCodes (stepsFrom q xs) ++ stepCodes (stepsFrom (lastOf q xs) ys)

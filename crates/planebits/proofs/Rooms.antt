@@ -10,10 +10,10 @@ use Rattle.scalar.specs.Tab.{lane}
 use Rattle.bits.specs.Bits.{bitsOf, runCode, bytesFor, padToByte}
 use Rattle.bits.proofs.PackBack.{length-padToByte}
 use Rattle.bits.proofs.Codes.{length-bitsOf}
-use Rattle.slice.specs.Streams.{codedDc, stepsFrom, stepCode, stepCodes, dcOf, withDc, joined, symbolCodes, dcStream, acStream}
-use Rattle.slice.proofs.Size.{AtMost, Small as AcSmallRow, AcSmall, dc-length, ac-length}
-use Rattle.slice.proofs.Law.{Quantised, AllQuantised}
-use Rattle.slice.proofs.DcNear.{dc-near}
+use Rattle.calls.specs.Streams.{codedDc, stepsFrom, stepCode, stepCodes, dcOf, withDc, joined, symbolCodes, dcStream, acStream}
+use Rattle.calls.proofs.Size.{AtMost, Small as AcSmallRow, AcSmall, dc-length, ac-length}
+use Rattle.calls.proofs.Fits.{Quantised, AllQuantised}
+use Rattle.calls.proofs.DcNear.{dc-near}
 use Rattle.bitacc.specs.declared.BitAcc.{BitAcc}
 use Rattle.bitacc.specs.Put.{start, Wrote, Put, Room, LastRoom}
 use Rattle.bitacc.proofs.Writer.{wrote-room, whole-room, wrote-length, wrote-count}

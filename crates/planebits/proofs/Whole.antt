@@ -13,7 +13,7 @@ use Rattle.bits.proofs.Pack.{pad-append}
 use Rattle.bits.proofs.PackBack.{length-padToByte}
 use Rattle.bits.proofs.Codes.{length-bitsOf}
 use Rattle.bits.proofs.LayLaw.{lay-lay}
-use Rattle.slice.specs.Streams.{stepsFrom, stepCodes, symbolCodes, dcStream, acStream}
+use Rattle.calls.specs.Streams.{stepsFrom, stepCodes, symbolCodes, dcStream, acStream}
 use Rattle.bitacc.specs.declared.BitAcc.{BitAcc}
 use Rattle.bitacc.specs.Put.{Wrote}
 use Rattle.bitacc.proofs.Writer.{wrote-count}

@@ -8,7 +8,7 @@ use lib.ListN.{length}
 use Rattle.scalar.specs.Tab.{lane}
 use Rattle.bits.specs.Bits.{bitsOf, runCode, bytesFor, padToByte}
 use Rattle.bits.specs.Lay.{lay}
-use Rattle.slice.specs.Streams.{codedDc, stepsFrom, stepCode, stepCodes, dcOf, withDc, joined}
+use Rattle.calls.specs.Streams.{codedDc, stepsFrom, stepCode, stepCodes, dcOf, withDc, joined}
 use Rattle.bitacc.specs.declared.BitAcc.{BitAcc}
 use Rattle.bitacc.specs.Put.{start, Put, Room, LastRoom}
 use Rattle.acblock.specs.Places.{placesCodes, waitingAfter, Small}

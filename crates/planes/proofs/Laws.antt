@@ -7,8 +7,8 @@ use lib.IntN.{pos}
 use lib.ListN.{length, take, drop, length-drop}
 use lib.Seq.{take-all}
 use borrow.Author.Tests.{ne-eqb}
-use Rattle.slice.specs.Arguments.{Depth}
-use Rattle.slice.specs.Plane.{level, middleOf}
+use Rattle.calls.specs.Arguments.{Depth}
+use Rattle.calls.specs.Grid.{level, middleOf}
 
 -- ---- levels
 pub level-at-0 : (depth : Depth) (place : ℕ) → place ≡ 0 → middleOf depth ≡ level depth place

@@ -2,8 +2,8 @@
 ghost use mathlib.Core.Path.{_≡_};
 ghost use Prim.Native.Nat.{_+_, _*_, _<_, _≤_};
 ghost use lib.IntN.{pos};
-ghost use Rattle.slice.specs.Arguments.{eight, ten};
-ghost use Rattle.slice.specs.Plane.{level};
+ghost use Rattle.calls.specs.Arguments.{eight, ten};
+ghost use Rattle.calls.specs.Grid.{level};
 
 // The level of an 8-bit plane.
 pub fn level8(place: usize) -> u16

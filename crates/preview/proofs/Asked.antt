@@ -10,10 +10,10 @@ use borrow.Author.Tests.{le-leb, lt-leb, leb-true, leb-false}
 use Rattle.ask.specs.Ask.{Answer, accepted, firstNo}
 use Rattle.bits.specs.Bits.{bitAt}
 use Rattle.bits.specs.Lay.{lay}
-use Rattle.slice.specs.ReadPlane.{DcSteps, badSteps, dcSteps, readSteps}
-use Rattle.slice.specs.Plane.{blocksOf}
-use Rattle.slice.specs.Questions.{strideOk, previewQuestions}
-use Rattle.slice.specs.Previews.{Previewed, previewBytes, previewedBy, preview}
+use Rattle.calls.specs.ReadPlane.{DcSteps, badSteps, dcSteps, readSteps}
+use Rattle.calls.specs.Grid.{blocksOf}
+use Rattle.calls.specs.Questions.{strideOk, previewQuestions}
+use Rattle.calls.specs.Previews.{Previewed, previewBytes, previewedBy, preview}
 use Rattle.preview.specs.Row.{goodSteps, stepList, dcEnd, Stored}
 
 module _ (shift place stride : ℕ) (upper lower : List ℕ) (bytes at : ℕ) where

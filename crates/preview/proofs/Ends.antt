@@ -9,7 +9,7 @@ use Rattle.bits.specs.Bits.{Stream, bitAt}
 use Rattle.bits.specs.Read.{DcCode, badDc, zeroStep, step, readDc}
 use Rattle.bitscan.specs.Six.{noSixZeros}
 use Rattle.bitscan.proofs.Codes.{DcTo, no-dc}
-use Rattle.slice.specs.ReadPlane.{DcStep, keep, replace, DcSteps, badSteps, dcSteps, stepThen, byDcCode, readSteps}
+use Rattle.calls.specs.ReadPlane.{DcStep, keep, replace, DcSteps, badSteps, dcSteps, stepThen, byDcCode, readSteps}
 use Rattle.preview.specs.Row.{goodSteps}
 
 abbrev pub StepsTo : Type 0 → ℕ → ℕ → DcSteps → Type 0

@@ -17,7 +17,7 @@ use Rattle.bits.proofs.LayLaw.{lay-none, lay-next}
 use Rattle.bitreader.specs.Cursor.{At, NextDc}
 use Rattle.bitreader.specs.declared.AcCursor.{AcCursor}
 use Rattle.bitreader.specs.declared.Got.{Got}
-use Rattle.slice.specs.ReadPlane.{readSteps, settle}
+use Rattle.calls.specs.ReadPlane.{readSteps, settle}
 use Rattle.preview.specs.Row.{stepOf, byteOf, goodSteps, bytesFrom, dcBit, RowDone}
 use Rattle.preview.specs.declared.RowEnd.{RowEnd}
 use Rattle.preview.proofs.Steps.{good-by, bit-next, steps-bad, some, bytes-next, none-bit}

@@ -10,10 +10,10 @@ use lib.Seq.{take-at, drop-at}
 use Rattle.ask.specs.Ask.{Answer, refused, accepted}
 use Rattle.bits.specs.Bits.{bitAt, bytesFor}
 use Rattle.bits.specs.Lay.{lay}
-use Rattle.slice.specs.Arguments.{eight}
-use Rattle.slice.specs.ReadPlane.{DcSteps, badSteps, dcSteps, readSteps, predicted}
-use Rattle.slice.specs.Plane.{level}
-use Rattle.slice.specs.Previews.{previewByte, previewBytes}
+use Rattle.calls.specs.Arguments.{eight}
+use Rattle.calls.specs.ReadPlane.{DcSteps, badSteps, dcSteps, readSteps, predicted}
+use Rattle.calls.specs.Grid.{level}
+use Rattle.calls.specs.Previews.{previewByte, previewBytes}
 use Rattle.preview.specs.Row.{byteOf, goodSteps, stepList, bytesFrom, dcBit, inBytes, dcEnd, RowDone, Stored}
 use Rattle.preview.specs.declared.RowEnd.{RowEnd}
 use Rattle.preview.proofs.Steps.{good-by, none-bit, none-bytes}

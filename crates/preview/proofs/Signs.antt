@@ -7,7 +7,7 @@ use mir.Syntax.{w16}
 use mir.Val.{ofZ, SFits}
 use Rattle.scalar.specs.Scalar.{sllOf, modZ}
 use Rattle.bits.specs.Signed.{signedOf}
-use Rattle.slice.specs.ReadPlane.{settle}
+use Rattle.calls.specs.ReadPlane.{settle}
 use Rattle.preview.specs.Row.{stepOf}
 
 pub settle-step : (h n shift : ℕ) (here : ℤ) → h ≡ 0 → settle shift (stepOf h n) here ≡ sllOf (signedOf n) shift

@@ -11,7 +11,7 @@ use Rattle.scalar.specs.Scalar.{addOf}
 use Rattle.bits.specs.Bits.{Stream}
 use Rattle.bits.specs.Read.{DcCode, badDc, zeroStep, step, readDc}
 use Rattle.bitreader.specs.Cursor.{dcBy}
-use Rattle.slice.specs.ReadPlane.{DcStep, keep, replace, DcSteps, badSteps, dcSteps, stepThen, byDcCode, readSteps, settle, predicted}
+use Rattle.calls.specs.ReadPlane.{DcStep, keep, replace, DcSteps, badSteps, dcSteps, stepThen, byDcCode, readSteps, settle, predicted}
 use Rattle.preview.specs.Row.{stepOf, byteOf, goodSteps, stepList, bytesFrom, dcBit}
 
 never : false ≡ true → ⊥

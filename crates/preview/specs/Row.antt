@@ -12,9 +12,9 @@ use Rattle.scalar.specs.Scalar.{addOf, sraOf, modZ}
 use Rattle.bits.specs.Bits.{bitAt, bytesFor}
 use Rattle.bits.specs.Lay.{lay}
 use Rattle.bitreader.specs.Cursor.{At}
-use Rattle.slice.specs.ReadPlane.{DcStep, keep, replace, DcSteps, badSteps, dcSteps, readSteps, predicted}
-use Rattle.slice.specs.Questions.{badCode}
-use Rattle.slice.specs.Previews.{Previewed, previewBytes}
+use Rattle.calls.specs.ReadPlane.{DcStep, keep, replace, DcSteps, badSteps, dcSteps, readSteps, predicted}
+use Rattle.calls.specs.Questions.{badCode}
+use Rattle.calls.specs.Previews.{Previewed, previewBytes}
 use Rattle.preview.specs.declared.PlaneEnd.{PlaneEnd}
 use Rattle.preview.specs.declared.PlaneEnd.the-variants as plane
 use Rattle.preview.specs.declared.RowEnd.{RowEnd}

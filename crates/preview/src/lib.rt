@@ -9,11 +9,11 @@ ghost use Rattle.ask.specs.Ask.{firstNo};
 ghost use Rattle.scalar.specs.Scalar.{addOf};
 ghost use Rattle.bits.specs.Bits.{bitAt};
 ghost use Rattle.bitreader.specs.Cursor.{At};
-ghost use Rattle.slice.specs.Arguments.{eight};
-ghost use Rattle.slice.specs.ReadPlane.{readSteps, settle};
-ghost use Rattle.slice.specs.Plane.{level};
-ghost use Rattle.slice.specs.Questions.{previewQuestions};
-ghost use Rattle.slice.specs.Previews.{preview};
+ghost use Rattle.calls.specs.Arguments.{eight};
+ghost use Rattle.calls.specs.ReadPlane.{readSteps, settle};
+ghost use Rattle.calls.specs.Grid.{level};
+ghost use Rattle.calls.specs.Questions.{previewQuestions};
+ghost use Rattle.calls.specs.Previews.{preview};
 ghost use Rattle.preview.specs.Row.{stepOf, byteOf, goodSteps, dcEnd, endSays, RowDone, Stored, previewSays};
 use bitreader::AcCursor;
 

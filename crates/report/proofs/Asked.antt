@@ -10,10 +10,10 @@ use borrow.Author.Tests.{le-leb, lt-leb, leb-true, leb-false}
 use Rattle.ask.specs.Ask.{Answer, refused, accepted, firstNo}
 use Rattle.bits.specs.Bits.{bitAt}
 use Rattle.bits.specs.Lay.{lay}
-use Rattle.slice.specs.ReadPlane.{Blocks, badBlocks, blocks, readBlocks}
-use Rattle.slice.specs.Plane.{blocksOf}
-use Rattle.slice.specs.Questions.{strideOk, startOk, acLengthOk, reportQuestions}
-use Rattle.slice.specs.Previews.{Reported, reportedBy, blockReport}
+use Rattle.calls.specs.ReadPlane.{Blocks, badBlocks, blocks, readBlocks}
+use Rattle.calls.specs.Grid.{blocksOf}
+use Rattle.calls.specs.Questions.{strideOk, startOk, acLengthOk, reportQuestions}
+use Rattle.calls.specs.Previews.{Reported, reportedBy, blockReport}
 use Rattle.report.specs.Report.{reportsOf, acEnd}
 
 module _ (stride : ℕ) (report : List ℕ) (bytes at : ℕ) where

@@ -7,8 +7,8 @@ use native.Mathlib.Omega.{arith}
 use lib.Dec.{ltb}
 use Rattle.ask.specs.Ask.{Answer, refused, accepted}
 use Rattle.bits.specs.Bits.{Stream, bytesFor}
-use Rattle.slice.specs.ReadPlane.{Places, badPlaces, places, readPlaces, BlockRead, Blocks, badBlocks, blocks, blockThen, byPlaces, readBlocks}
-use Rattle.slice.specs.Questions.{badCode}
+use Rattle.calls.specs.ReadPlane.{Places, badPlaces, places, readPlaces, BlockRead, Blocks, badBlocks, blocks, blockThen, byPlaces, readBlocks}
+use Rattle.calls.specs.Questions.{badCode}
 use Rattle.acread.specs.Block.{Ends, badEnds, ends, endsOf}
 use Rattle.report.specs.Report.{flatByte, blockEnds, goodEnds, reportsOf, acEnd}
 

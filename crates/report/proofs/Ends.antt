@@ -12,7 +12,7 @@ use Rattle.bits.specs.Signed.{signedOf}
 use Rattle.bits.specs.Read.{Symbol, badSymbol, run, value, readSymbol}
 use Rattle.bitscan.specs.Six.{noSixZeros}
 use Rattle.bitscan.proofs.Codes.{SymbolTo, no-symbol}
-use Rattle.slice.specs.ReadPlane.{Places, badPlaces, places, placeThen, bySymbol, readPlaces, BlockRead, Blocks, badBlocks, blocks, blockThen, byPlaces, readBlocks}
+use Rattle.calls.specs.ReadPlane.{Places, badPlaces, places, placeThen, bySymbol, readPlaces, BlockRead, Blocks, badBlocks, blocks, blockThen, byPlaces, readBlocks}
 use Rattle.report.specs.Report.{blockEnds, goodEnds}
 
 abbrev PlacesTo : Type 0 → ℕ → ℕ → Places → Type 0

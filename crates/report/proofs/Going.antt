@@ -11,7 +11,7 @@ use Rattle.bits.specs.Lay.{lay}
 use Rattle.bits.proofs.LayLaw.{lay-none, lay-set, lay-lay}
 use Rattle.bitreader.specs.Cursor.{At}
 use Rattle.bitreader.specs.declared.AcCursor.{AcCursor}
-use Rattle.slice.specs.ReadPlane.{readPlaces, readBlocks}
+use Rattle.calls.specs.ReadPlane.{readPlaces, readBlocks}
 use Rattle.acread.specs.Block.{Ends, badEnds, ends, endsOf, endSays, BlockEnded}
 use Rattle.acread.specs.declared.BlockEnd.{BlockEnd}
 use Rattle.acread.specs.declared.BlockEnd.the-variants as block

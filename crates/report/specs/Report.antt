@@ -5,9 +5,9 @@ use Prim.Native.Nat.{ℕ}
 use lib.Dec.{ltb}
 use Rattle.ask.specs.Ask.{Answer, refused, accepted}
 use Rattle.bits.specs.Bits.{bytesFor}
-use Rattle.slice.specs.ReadPlane.{Blocks, badBlocks, blocks}
-use Rattle.slice.specs.Questions.{badCode}
-use Rattle.slice.specs.Previews.{reportByte, Reported}
+use Rattle.calls.specs.ReadPlane.{Blocks, badBlocks, blocks}
+use Rattle.calls.specs.Questions.{badCode}
+use Rattle.calls.specs.Previews.{reportByte, Reported}
 use Rattle.acread.specs.Block.{Ends, badEnds, ends}
 use Rattle.report.specs.declared.PlaneEnd.{PlaneEnd}
 use Rattle.report.specs.declared.PlaneEnd.the-variants as plane

@@ -8,9 +8,9 @@ ghost use lib.ListN.{length};
 ghost use Rattle.ask.specs.Ask.{accepted, firstNo};
 ghost use Rattle.bits.specs.Bits.{bitAt};
 ghost use Rattle.bits.specs.Lay.{lay};
-ghost use Rattle.slice.specs.ReadPlane.{readBlocks};
-ghost use Rattle.slice.specs.Questions.{reportQuestions};
-ghost use Rattle.slice.specs.Previews.{blockReport};
+ghost use Rattle.calls.specs.ReadPlane.{readBlocks};
+ghost use Rattle.calls.specs.Questions.{reportQuestions};
+ghost use Rattle.calls.specs.Previews.{blockReport};
 ghost use Rattle.report.specs.Report.{flatByte, blockEnds, goodEnds, reportsOf, acEnd, endSays, reportSays};
 use acread::BlockEnd;
 

@@ -6,9 +6,9 @@ use Prim.Native.Nat.{ℕ, zero, suc, _*_, _/_, _≤_}
 use native.Mathlib.Omega.{arith}
 use lib.ListN.{length, take}
 use Rattle.ask.specs.Ask.{firstNo}
-use Rattle.slice.specs.Arguments.{eight, Plane, PerStream}
-use Rattle.slice.specs.Questions.{strideOk, countOk, each, lengthsAtMost, together, roomForAll, planeSizeQuestions, sliceSizeQuestions}
-use Rattle.slice.specs.Previews.{nothing, sizedBy, planeSize, sliceSize, lengthsOfAll, ofStride, firstOfFour}
+use Rattle.calls.specs.Arguments.{eight, Plane, PerStream}
+use Rattle.calls.specs.Questions.{strideOk, countOk, each, lengthsAtMost, together, roomForAll, planeSizeQuestions, sliceSizeQuestions}
+use Rattle.calls.specs.Previews.{nothing, sizedBy, planeSize, sliceSize, lengthsOfAll, ofStride, firstOfFour}
 use Rattle.askfour.specs.Firsts.{allOf, sumOf}
 use Rattle.askorder.specs.Order.{roomOf}
 use Rattle.askorder.proofs.Laws.{yes, no, none}

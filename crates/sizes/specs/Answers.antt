@@ -1,5 +1,5 @@
 -- What an answer of the size calls says: document 01's number, and the lengths.
-use Rattle.slice.specs.Previews.{Sized, nothing}
+use Rattle.calls.specs.Previews.{Sized, nothing}
 use Rattle.sizes.specs.declared.SizeAnswer.{SizeAnswer}
 use Rattle.sizes.specs.declared.SizeAnswer.the-variants as answer
 

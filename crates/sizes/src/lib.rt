@@ -1,6 +1,6 @@
 // The size calls: a length that each stream of a plane, or of a slice, is at most: 4 bytes a block for DC, 197 for AC.
 ghost use mathlib.Core.Path.{_≡_};
-ghost use Rattle.slice.specs.Previews.{planeSize, sliceSize};
+ghost use Rattle.calls.specs.Previews.{planeSize, sliceSize};
 ghost use Rattle.sizes.specs.Answers.{sizeSays};
 
 pub enum SizeAnswer {

@@ -6,17 +6,19 @@ use native.Mathlib.Nat.{add-zero, add-assoc}
 use native.Mathlib.Omega.{arith}
 use lib.IntN.{ℤ, pos, natAbs, _-ℤ_}
 use lib.ListN.{length, drop, length-append}
-use Rattle.slice.specs.Arguments.{Settings, Plane, PerStream, Buffers}
-use Rattle.slice.specs.Streams.{dcOf, withDc, dcStream, acStream}
-use Rattle.slice.specs.ReadPlane.{BlockRead, PlaneRead, readPlane}
-use Rattle.slice.specs.Plane.{blocksOf, coefficients}
-use Rattle.slice.specs.Questions.{together}
+use Rattle.calls.specs.Arguments.{Settings, Plane, PerStream, Buffers}
+use Rattle.calls.specs.Streams.{dcOf, withDc, dcStream, acStream}
+use Rattle.calls.specs.ReadPlane.{BlockRead, PlaneRead, readPlane}
+use Rattle.calls.specs.Grid.{blocksOf}
+use Rattle.slice.specs.Plane.{coefficients}
+use Rattle.calls.specs.Questions.{together}
 use Rattle.slice.specs.Calls.{lengthsOf, ownStreams, PlanesRead, planesRead, planeThen, byPlane, readPlanes}
 use Rattle.slice.specs.CallLists.{Shape, shape}
 use Rattle.slice.specs.Demand3.{BlockBack, PlaneBack, PlanesBack}
-use Rattle.slice.proofs.DcNear.{dc-near, no-difference}
-use Rattle.slice.proofs.PlaneBack.{coeffsOf, dcRead, blockRead, PlaneIs, plane-back}
-use Rattle.slice.proofs.Law.{Quantised, AllQuantised, plane-quantised, blocks-fit, count-is}
+use Rattle.calls.proofs.DcNear.{dc-near, no-difference}
+use Rattle.calls.proofs.PlaneBack.{coeffsOf, dcRead, blockRead, PlaneIs, plane-back}
+use Rattle.calls.proofs.Fits.{Quantised, AllQuantised}
+use Rattle.slice.proofs.Law.{plane-quantised, blocks-fit, count-is}
 
 block-back : (shift : ℕ) (b g : List ℤ) → shift ≤ 15 → Quantised b → g ≡ blockRead shift b → BlockBack shift b g
 block-back shift [] g hs q e = absurd (omega (arith, q .sixty-four))

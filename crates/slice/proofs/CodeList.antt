@@ -11,16 +11,16 @@ use lib.Seq.{take-at, drop-at, length-take-le}
 use Rattle.bits.specs.Lay.{lay}
 use Rattle.bits.proofs.LayLaw.{lay-none, lay-length, lay-take, lay-drop, lay-lay}
 use Rattle.ask.specs.Ask.{firstNo}
-use Rattle.slice.specs.Arguments.{Settings, Plane, Call, settingsOf, planesOf, PerStream, Buffers}
-use Rattle.slice.specs.Streams.{dcStream, acStream}
+use Rattle.calls.specs.Arguments.{Settings, Plane, Call, settingsOf, planesOf, PerStream, Buffers}
+use Rattle.calls.specs.Streams.{dcStream, acStream}
 use Rattle.slice.specs.Plane.{coefficients}
-use Rattle.slice.specs.Questions.{strideOk, each, together, roomForAll, codingQuestions}
+use Rattle.calls.specs.Questions.{strideOk, each, together, roomForAll, codingQuestions}
 use Rattle.slice.specs.Calls.{lengthsOf, Coded, ownStreams, laidAt, codedBy, encode}
 use Rattle.slice.specs.CallLists.{Answer, CodedAll, Book, emptyBook, Fed, bookAt, bookNumber, putBehind, bookBy, bookNext, bookAfter, bookAnswers}
 use Rattle.slice.specs.Demand3.{Written, fed, CodingHalf}
 use Rattle.slice.proofs.Law.{dc-fits, ac-fits}
 use Rattle.slice.proofs.Runs.{encodeAll}
-use Rattle.slice.proofs.Asked.{CodingYes, coding-yes}
+use Rattle.calls.proofs.Asked.{CodingYes, coding-yes}
 
 -- ---- a row that lies in a buffer, or is none
 pub data Sits (l : List ℕ) (i : ℕ) (row : List ℕ) : Type 0 where

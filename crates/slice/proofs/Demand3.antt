@@ -9,14 +9,14 @@ use lib.ListN.{length, take, length-append}
 use lib.Seq.{length-take-le}
 use Rattle.bits.specs.Lay.{lay}
 use Rattle.bits.proofs.LayLaw.{lay-take}
-use Rattle.slice.specs.Arguments.{Settings, Plane, Call, settingsOf, planesOf, PerStream, Buffers}
+use Rattle.calls.specs.Arguments.{Settings, Plane, Call, settingsOf, planesOf, PerStream, Buffers}
 use Rattle.slice.specs.Plane.{coefficients}
-use Rattle.slice.specs.Questions.{strideOk, each, together}
+use Rattle.calls.specs.Questions.{strideOk, each, together}
 use Rattle.slice.specs.Calls.{lengthsOf, ownStreams, Coded, encode, Decoded, decode}
 use Rattle.slice.specs.CallLists.{CodedAll, DecodedAll, Book, emptyBook, Fed, bookAt, bookNumber, putBehind, bookBy, bookNext, bookAfter, bookAnswers, ifAccepted, AtThese, planesCoded, OneSetting, blocksRead, Follows}
 use Rattle.slice.specs.Demand3.{fed, book, planes, readFrom, CodingHalf, PlanesBack, ReadingHalf, Demand3}
 use Rattle.slice.proofs.Runs.{encodeAll, decodeAll, coded-so, read-so}
-use Rattle.slice.proofs.Asked.{CodingYes, coding-yes, and-l, and-r, stride-le}
+use Rattle.calls.proofs.Asked.{CodingYes, coding-yes, and-l, and-r, stride-le}
 use Rattle.slice.proofs.CodeList.{room, with, from-empty, coding}
 use Rattle.slice.proofs.BlocksBack.{Fine, AllFine, fine-join}
 use Rattle.slice.proofs.ReadList.{own-append, Back, Lies, nothing, lies, list-read}

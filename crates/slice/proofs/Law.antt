@@ -13,22 +13,14 @@ use Rattle.fdct.proofs.Coefficients.{forward-fits}
 use Rattle.quant.specs.Quantise.{quantiseOf, scanOf}
 use Rattle.quant.proofs.Blocks.{scan-length}
 use Rattle.quant.proofs.Bounds.{scanned-bound, scanned-last}
-use Rattle.slice.specs.Arguments.{Depth, isTen, Settings, Plane}
-use Rattle.slice.specs.Streams.{dcOf, dcStream, acStream}
-use Rattle.slice.specs.Plane.{columnsOf, blocksOf, level, lanesAt, blockCoefficients, coefficientsAt, coefficients}
-use Rattle.slice.proofs.AcBack.{Fit16}
-use Rattle.slice.proofs.PlaneBack.{Blocks64}
-use Rattle.slice.proofs.Size.{AtMost, Small, AcSmall, dc-length, ac-length}
-
--- a quantised block in scan order: 64 coefficients from -2,048 to 2,048, the last one from -395 to 395
-pub record Quantised (b : List ℤ) : Type 0 where
-  pub sixty-four : length b ≡ 64
-  pub at-most : AtMost 2048 b
-  pub last : natAbs (getD b 63 (pos 0)) ≤ 395
-
-abbrev pub AllQuantised : List (List ℤ) → Type 0
-AllQuantised [] = Unit {0}
-AllQuantised (b ∷ bs) = Quantised b × AllQuantised bs
+use Rattle.calls.specs.Arguments.{Depth, isTen, Settings, Plane}
+use Rattle.calls.specs.Streams.{dcOf, dcStream, acStream}
+use Rattle.calls.specs.Grid.{columnsOf, blocksOf, level}
+use Rattle.slice.specs.Plane.{lanesAt, blockCoefficients, coefficientsAt, coefficients}
+use Rattle.calls.proofs.PlaneBack.{Blocks64}
+use Rattle.calls.proofs.Size.{AtMost}
+use Rattle.calls.proofs.Fits.{Quantised, AllQuantised, blocks-64, dcs-at-most}
+use Rattle.calls.proofs.Fits as fits
 
 at-most-list : (b : ℕ) (l : List ℤ) → ((i : ℕ) → i < length l → natAbs (getD l i (pos 0)) ≤ b) → AtMost b l
 at-most-list b [] h = tt
@@ -49,41 +41,6 @@ quantised depth preset p j k h =
 
     Q : List ℤ
     Q = quantiseOf preset L
-
-fit-of : (b : List ℤ) → AtMost 2048 b → Fit16 b
-fit-of [] h = tt
-fit-of (c ∷ b) h = (mag-of c (h .0), fit-of b (h .1))
-  where
-    mag-of : (z : ℤ) → natAbs z ≤ 2048 → mag z < 32768
-    mag-of (pos n) l = omega arith
-    mag-of (negsuc n) l = omega arith
-
-blocks-64 : (bs : List (List ℤ)) → AllQuantised bs → Blocks64 bs
-blocks-64 [] h = tt
-blocks-64 (b ∷ bs) h = (h .0 .sixty-four, fit-of b (h .0 .at-most), blocks-64 bs (h .1))
-
-dcs-at-most : (bs : List (List ℤ)) → AllQuantised bs → AtMost 2048 (map dcOf bs)
-dcs-at-most [] h = tt
-dcs-at-most (b ∷ bs) h = (one b (h .0 .at-most), dcs-at-most bs (h .1))
-  where
-    one : (l : List ℤ) → AtMost 2048 l → natAbs (dcOf l) ≤ 2048
-    one [] a = omega arith
-    one (c ∷ l) a = a .0
-
-small-of : (c : ℤ) (b : List ℤ) → AtMost 2048 (c ∷ b) → natAbs (getD (c ∷ b) (length b) (pos 0)) ≤ 395 → Small (c ∷ b)
-small-of c [] h l = l
-small-of c (d ∷ b) h l = (h .0, small-of d b (h .1) l)
-
-one-small : (b : List ℤ) (bs : List (List ℤ)) → Quantised b → AcSmall bs → AcSmall (b ∷ bs)
-one-small [] bs q r = absurd (omega (arith, q .sixty-four))
-one-small (c ∷ []) bs q r = absurd (omega (arith, q .sixty-four))
-one-small (c ∷ d ∷ l) bs q r =
-    let n : length l ≡ 62 = omega (arith, q .sixty-four) in
-    (omega arith, small-of d l (q .at-most .1) (rw n (q .last)), r)
-
-ac-small : (bs : List (List ℤ)) → AllQuantised bs → AcSmall bs
-ac-small [] h = tt
-ac-small (b ∷ bs) h = one-small b bs (h .0) (ac-small bs (h .1))
 
 module _ (σ : Settings) (p : Plane) (preset-le : σ .preset ≤ 24) where
   row-quantised : (j k n : ℕ) → AllQuantised (tabFrom (blockCoefficients (σ .depth) (σ .preset) p j) k n)
@@ -113,7 +70,7 @@ module _ (σ : Settings) (p : Plane) (preset-le : σ .preset ≤ 24) where
       ∙ (omega (arith, length-tab (columnsOf (p .stride)) (blockCoefficients (σ .depth) (σ .preset) p 0), length-tab (columnsOf (p .stride)) (blockCoefficients (σ .depth) (σ .preset) p 1)))
 
   pub dc-fits : σ .shift ≤ 15 → length (dcStream (σ .shift) (coefficients σ p)) ≤ 4 * blocksOf (p .stride)
-  dc-fits h = rw (← count-is) (dc-length (σ .shift) (coefficients σ p) h dcs-small)
+  dc-fits h = fits.dc-fits (coefficients σ p) (p .stride) count-is plane-quantised (σ .shift) h
 
   pub ac-fits : length (acStream (coefficients σ p)) ≤ 197 * blocksOf (p .stride)
-  ac-fits = rw (← count-is) (ac-length (coefficients σ p) (ac-small (coefficients σ p) plane-quantised))
+  ac-fits = fits.ac-fits (coefficients σ p) (p .stride) count-is plane-quantised

@@ -1,13 +1,4 @@
-pub mod Entries
-pub mod Orders
-pub mod AcBack
-pub mod Residues
-pub mod DcBack
-pub mod DcNear
-pub mod PlaneBack
-pub mod Size
 pub mod Law
-pub mod Asked
 pub mod Runs
 pub mod CodeList
 pub mod BlocksBack

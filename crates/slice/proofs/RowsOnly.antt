@@ -13,9 +13,10 @@ use Rattle.scalar.proofs.Fill.{tab-ext}
 use Rattle.fdct.specs.Forward.{forwardOf}
 use Rattle.quant.specs.Quantise.{quantiseOf, scanOf}
 use Rattle.paint.proofs.Over.{length-over, getD-over}
-use Rattle.slice.specs.Arguments.{Depth, isTen, Plane}
-use Rattle.slice.specs.ReadPlane.{BlockRead}
-use Rattle.slice.specs.Plane.{columnsOf, laneOf, level, lanesAt, blockCoefficients, coefficientsAt, reconstructAt}
+use Rattle.calls.specs.Arguments.{Depth, isTen, Plane}
+use Rattle.calls.specs.ReadPlane.{BlockRead}
+use Rattle.calls.specs.Grid.{columnsOf, level}
+use Rattle.slice.specs.Plane.{laneOf, lanesAt, blockCoefficients, coefficientsAt, reconstructAt}
 
 module _ (place stride : ℕ) (xs ys : List ℕ) (same : take (16 * stride) xs ≡ take (16 * stride) ys) where
   sample-same : (i : ℕ) → i < 16 * stride → getD xs i 0 ≡ getD ys i 0

@@ -1,7 +1,7 @@
 -- Lists of calls that do what the definitions say: how they run.
 use mathlib.Core.Path.{_≡_, refl, sym, ap, _∙_}
 use mathlib.Core.List.{List, [], _∷_}
-use Rattle.slice.specs.Arguments.{Call, PerStream, Buffers}
+use Rattle.calls.specs.Arguments.{Call, PerStream, Buffers}
 use Rattle.slice.specs.Calls.{Coded, encode, Decoded, decode}
 use Rattle.slice.specs.CallLists.{Answer, CodedAll, Coding, codedNone, codedThen, DecodedAll, Reading, readNone, readThen}
 

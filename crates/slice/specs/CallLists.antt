@@ -4,9 +4,9 @@ use mathlib.Core.List.{List, [], _∷_, _++_, map}
 use Prim.Native.Nat.{ℕ, zero, suc, _+_}
 use lib.ListN.{length, take, drop}
 use Rattle.ask.specs.Ask.{firstNo}
-use Rattle.slice.specs.Arguments.{Settings, Plane, Call, settingsOf, planesOf, PerStream, Buffers}
-use Rattle.slice.specs.ReadPlane.{BlockRead}
-use Rattle.slice.specs.Questions.{codingQuestions, readingQuestions, together}
+use Rattle.calls.specs.Arguments.{Settings, Plane, Call, settingsOf, planesOf, PerStream, Buffers}
+use Rattle.calls.specs.ReadPlane.{BlockRead}
+use Rattle.calls.specs.Questions.{codingQuestions, readingQuestions, together}
 use Rattle.slice.specs.Calls.{lengthsOf, Coded, ownStreams, PlanesRead, badPlanes, planesRead, readPlanes, Decoded}
 
 -- what a call hands back besides lent memory

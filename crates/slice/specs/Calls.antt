@@ -5,11 +5,12 @@ use Prim.Native.Nat.{ℕ, zero, suc}
 use lib.ListN.{length}
 use Rattle.bits.specs.Lay.{lay}
 use Rattle.ask.specs.Ask.{firstNo}
-use Rattle.slice.specs.Arguments.{Settings, Rows, Plane, Call, onePlane, oneSlice, settingsOf, planesLent, planesOf, PerStream, Buffers}
-use Rattle.slice.specs.Streams.{dcStream, acStream}
-use Rattle.slice.specs.ReadPlane.{BlockRead, PlaneRead, badPlane, planeRead, readPlane}
-use Rattle.slice.specs.Plane.{blocksOf, coefficients, reconstruct}
-use Rattle.slice.specs.Questions.{codingQuestions, readingQuestions, badCode, together}
+use Rattle.calls.specs.Arguments.{Settings, Rows, Plane, Call, onePlane, oneSlice, settingsOf, planesLent, planesOf, PerStream, Buffers}
+use Rattle.calls.specs.Streams.{dcStream, acStream}
+use Rattle.calls.specs.ReadPlane.{BlockRead, PlaneRead, badPlane, planeRead, readPlane}
+use Rattle.calls.specs.Grid.{blocksOf}
+use Rattle.slice.specs.Plane.{coefficients, reconstruct}
+use Rattle.calls.specs.Questions.{codingQuestions, readingQuestions, badCode, together}
 
 abbrev pub lengthsOf : Buffers → PerStream
 lengthsOf b = record { dc = length (b .dcBytes); ac = length (b .acBytes) }

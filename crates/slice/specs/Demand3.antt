@@ -4,11 +4,11 @@ use mathlib.Core.List.{List, [], _∷_, _++_, map}
 use Prim.Native.Nat.{ℕ, zero, suc, _+_, _/_, _^_, _≤_}
 use lib.IntN.{ℤ, natAbs, _-ℤ_}
 use lib.ListN.{length, take, drop}
-use Rattle.slice.specs.Arguments.{Settings, Plane, Call, settingsOf, planesLent, planesOf, PerStream, Buffers}
-use Rattle.slice.specs.Streams.{dcOf}
-use Rattle.slice.specs.ReadPlane.{BlockRead}
+use Rattle.calls.specs.Arguments.{Settings, Plane, Call, settingsOf, planesLent, planesOf, PerStream, Buffers}
+use Rattle.calls.specs.Streams.{dcOf}
+use Rattle.calls.specs.ReadPlane.{BlockRead}
 use Rattle.slice.specs.Plane.{coefficients}
-use Rattle.slice.specs.Questions.{together, badCode}
+use Rattle.calls.specs.Questions.{together, badCode}
 use Rattle.slice.specs.Calls.{lengthsOf, Coded, ownStreams, planesRead, readPlanes, Decoded, rowsOf, rowsMade}
 use Rattle.slice.specs.CallLists.{CodedAll, Coding, DecodedAll, Reading, Fed, Book, emptyBook, bookAt, bookAfter, bookAnswers, planesCoded, putBehind, OneSetting, numberBefore8, Follows, blocksRead}
 

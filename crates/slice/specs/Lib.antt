@@ -1,9 +1,4 @@
-pub mod Arguments
-pub mod Streams
-pub mod ReadPlane
 pub mod Plane
-pub mod Questions
 pub mod Calls
-pub mod Previews
 pub mod CallLists
 pub mod Demand3

@@ -1,9 +1,9 @@
 -- A plane's coefficients, and the rows made from what was read. Document 01, 'Plane and slice'.
-use mathlib.Core.Bool.{Bool, true, false, _||_, cond}
+use mathlib.Core.Bool.{Bool, true, false, cond}
 use mathlib.Core.List.{List, [], _∷_, _++_, map}
 use Prim.Native.Nat.{ℕ, zero, suc, _+_, _*_, _/_, _%_}
 use lib.IntN.{ℤ, pos}
-use lib.Dec.{ltb, eqb}
+use lib.Dec.{ltb}
 use lib.ListN.{getD, replicate}
 use Rattle.scalar.specs.Tab.{tab}
 use Rattle.fdct.specs.Forward.{forwardOf}
@@ -11,9 +11,10 @@ use Rattle.quant.specs.Quantise.{quantiseOf, scanOf, naturalOf, dequantiseOf}
 use Rattle.idct.specs.Inverse.{inverseOf, samplesOf}
 use Rattle.paint.specs.Paint.{over}
 use Rattle.paint.specs.Samples.{flatSample}
-use Rattle.slice.specs.Arguments.{Depth, eight, ten, isTen, Settings, Plane}
-use Rattle.slice.specs.Streams.{dcOf}
-use Rattle.slice.specs.ReadPlane.{BlockRead}
+use Rattle.calls.specs.Arguments.{Depth, eight, ten, isTen, Settings, Plane}
+use Rattle.calls.specs.Grid.{columnsOf, level}
+use Rattle.calls.specs.Streams.{dcOf}
+use Rattle.calls.specs.ReadPlane.{BlockRead}
 
 -- where the sample of a row and a column lies
 abbrev pub sampleIndex : ℕ → ℕ → ℕ → ℕ
@@ -22,25 +23,10 @@ sampleIndex stride row column = row * stride + column
 abbrev pub sampleAt : Plane → ℕ → ℕ → ℕ
 sampleAt p row column = getD (p .samples) (sampleIndex (p .stride) row column) 0
 
--- 8 by 8 samples a block: the blocks side by side, and those of a plane's 16 rows
-abbrev pub columnsOf : ℕ → ℕ
-columnsOf stride = stride / 8
-
-abbrev pub blocksOf : ℕ → ℕ
-blocksOf stride = 2 * columnsOf stride
-
 -- "A u8 sample is its own lane; a u16 sample's lane is the sample shifted right by 6."
 abbrev pub laneOf : Depth → ℕ → ℤ
 laneOf eight x = pos x
 laneOf ten x = pos (x / 64)
-
--- "Place 0 and 3 take level 128 (8-bit) or 512 (10-bit), places 1 and 2 take 0."
-abbrev pub middleOf : Depth → ℤ
-middleOf eight = pos 128
-middleOf ten = pos 512
-
-abbrev pub level : Depth → ℕ → ℤ
-level depth place = cond (eqb place 0 || eqb place 3) (middleOf depth) (pos 0)
 
 -- the block that the sample at i lies in, blocks "left to right, upper eight rows first", and its place among that block's 64
 abbrev pub blockAt : ℕ → ℕ → ℕ

@@ -24,11 +24,11 @@ use Rattle.idct.specs.Columns as columns
 use Rattle.idct.specs.Inverse.{inverseOf, samplesOf}
 use Rattle.paint.specs.Paint.{over}
 use Rattle.paint.specs.Samples.{tenOf, flatSample}
-use Rattle.slice.specs.Arguments.{eight, ten, Settings, Plane, PerStream, Buffers}
-use Rattle.slice.specs.Streams.{codedDc, stepsFrom, stepCode, stepCodes, dcStream, symbolCodes, acStream}
-use Rattle.slice.specs.ReadPlane.{readPlaces, readBlocks, readSteps, predicted, readPlane}
+use Rattle.calls.specs.Arguments.{eight, ten, Settings, Plane, PerStream, Buffers}
+use Rattle.calls.specs.Streams.{codedDc, stepsFrom, stepCode, stepCodes, dcStream, symbolCodes, acStream}
+use Rattle.calls.specs.ReadPlane.{readPlaces, readBlocks, readSteps, predicted, readPlane}
 use Rattle.slice.specs.Plane.{lanesAt, blockCoefficients, coefficientsAt, transformed, filledFlat, blockSamples, reconstructAt}
-use Rattle.slice.specs.Questions.{codingQuestions, readingQuestions}
+use Rattle.calls.specs.Questions.{codingQuestions, readingQuestions}
 use Rattle.slice.specs.Calls.{ownStreams, readPlanes, rowsMade, Decoded, decode, decodePlane}
 
 -- ---- 8-bit, stride 8, place 1, preset 12, shift 2

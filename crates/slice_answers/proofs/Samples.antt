@@ -16,7 +16,7 @@ use lib.Count.{leadingZeros}
 use Rattle.tables.specs.Divisor.{baseMatrix, qualityFactors, divisor}
 use Rattle.tables.specs.Reciprocal.{shiftOf, correctionOf, reciprocalOf, scaleOf}
 use Rattle.tables.specs.Quality.{Chosen, chooseFrom, qualityPreset}
-use Rattle.slice.specs.Previews.{previewByte}
+use Rattle.calls.specs.Previews.{previewByte}
 use Rattle.tables.specs.Zigzag.{zigzag, unzigzag}
 use Rattle.quant.specs.Quantise.{withSign, roundedDivision, quantiseOf, scanOf, naturalOf, dequantised, dequantiseBy}
 use Rattle.fcol.specs.Steps as fcol
@@ -28,11 +28,11 @@ use Rattle.idct.specs.Columns as columns
 use Rattle.idct.specs.Inverse.{inverseOf, samplesOf}
 use Rattle.paint.specs.Paint.{over}
 use Rattle.paint.specs.Samples.{flatSample}
-use Rattle.slice.specs.Arguments.{eight, Settings, Plane, PerStream, Buffers}
-use Rattle.slice.specs.Streams.{codedDc, stepsFrom, stepCode, stepCodes, dcStream, symbolCodes, acStream}
-use Rattle.slice.specs.ReadPlane.{readPlaces, readBlocks, readSteps, predicted, readPlane}
+use Rattle.calls.specs.Arguments.{eight, Settings, Plane, PerStream, Buffers}
+use Rattle.calls.specs.Streams.{codedDc, stepsFrom, stepCode, stepCodes, dcStream, symbolCodes, acStream}
+use Rattle.calls.specs.ReadPlane.{readPlaces, readBlocks, readSteps, predicted, readPlane}
 use Rattle.slice.specs.Plane.{lanesAt, blockCoefficients, coefficientsAt, transformed, filledFlat, blockSamples, reconstructAt}
-use Rattle.slice.specs.Questions.{codingQuestions, readingQuestions}
+use Rattle.calls.specs.Questions.{codingQuestions, readingQuestions}
 use Rattle.slice.specs.Calls.{ownStreams, readPlanes, rowsMade, Decoded, decode, decodePlane}
 
 -- an 8-bit plane, stride 8, all samples the same

@@ -16,11 +16,11 @@ use Rattle.quant.specs.Quantise.{withSign, roundedDivision, quantiseOf, scanOf}
 use Rattle.fcol.specs.Steps as fcol
 use Rattle.frow.specs.Rows as frow
 use Rattle.fdct.specs.Forward as fdct
-use Rattle.slice.specs.Arguments.{eight, ten, Settings, Rows, Plane, Call, onePlane, oneSlice, PerStream, Buffers}
-use Rattle.slice.specs.Streams.{codedDc, stepsFrom, stepCode, stepCodes, dcStream, symbolCodes, acStream}
-use Rattle.slice.specs.ReadPlane.{readPlaces, readBlocks, readSteps, predicted, readPlane}
+use Rattle.calls.specs.Arguments.{eight, ten, Settings, Rows, Plane, Call, onePlane, oneSlice, PerStream, Buffers}
+use Rattle.calls.specs.Streams.{codedDc, stepsFrom, stepCode, stepCodes, dcStream, symbolCodes, acStream}
+use Rattle.calls.specs.ReadPlane.{readPlaces, readBlocks, readSteps, predicted, readPlane}
 use Rattle.slice.specs.Plane.{lanesAt, blockCoefficients, coefficientsAt}
-use Rattle.slice.specs.Questions.{codingQuestions, readingQuestions}
+use Rattle.calls.specs.Questions.{codingQuestions, readingQuestions}
 use Rattle.slice.specs.Calls.{ownStreams, encode, readPlanes, decode}
 use Rattle.slice.specs.CallLists.{emptyBook, bookNumber, planesCoded, OneSetting, Follows, blocksRead}
 use Rattle.slice.specs.Demand3.{fed, planes, readFrom, ReadingHalf}

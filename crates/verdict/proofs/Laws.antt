@@ -5,9 +5,9 @@ use mathlib.Core.List.{List, [], _∷_}
 use Prim.Native.Nat.{ℕ, zero, suc, _≤_, _<_}
 use native.Mathlib.Omega.{arith}
 use Rattle.ask.specs.Ask.{firstNo}
-use Rattle.slice.specs.Arguments.{Call, settingsOf, planesLent, planesOf, PerStream, Buffers}
-use Rattle.slice.specs.ReadPlane.{BlockRead}
-use Rattle.slice.specs.Questions.{readingQuestions}
+use Rattle.calls.specs.Arguments.{Call, settingsOf, planesLent, planesOf, PerStream, Buffers}
+use Rattle.calls.specs.ReadPlane.{BlockRead}
+use Rattle.calls.specs.Questions.{readingQuestions}
 use Rattle.slice.specs.Calls.{lengthsOf, PlanesRead, badPlanes, planesRead, readPlanes, rowsOf, rowsMade, decodedBy, decode}
 use Rattle.judge.specs.Good.{goodPlanes}
 

@@ -6,10 +6,10 @@ use Prim.Native.Nat.{ℕ, _*_, _/_, _^_, _≤_, _<_}
 use native.Mathlib.Omega.{arith}
 use lib.ListN.{length}
 use Rattle.ask.specs.Ask.{firstNo}
-use Rattle.slice.specs.Arguments.{Depth, PerStream, Buffers}
-use Rattle.slice.specs.ReadPlane.{PlaneRead, badPlane, planeRead, readPlane}
-use Rattle.slice.specs.Plane.{blocksOf}
-use Rattle.slice.specs.Questions.{readingQuestions}
+use Rattle.calls.specs.Arguments.{Depth, PerStream, Buffers}
+use Rattle.calls.specs.ReadPlane.{PlaneRead, badPlane, planeRead, readPlane}
+use Rattle.calls.specs.Grid.{blocksOf}
+use Rattle.calls.specs.Questions.{readingQuestions}
 use Rattle.slice.specs.Calls.{PlanesRead, planesRead, byPlane, readPlanes, decode}
 use Rattle.askorder.specs.Order.{perStream}
 use Rattle.asks.specs.ByNumbers.{planeCall}

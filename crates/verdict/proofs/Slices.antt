@@ -6,8 +6,8 @@ use Prim.Native.Nat.{ℕ, zero, suc, _^_, _≤_, _<_}
 use native.Mathlib.Omega.{arith}
 use lib.ListN.{length, take, getD}
 use Rattle.ask.specs.Ask.{firstNo}
-use Rattle.slice.specs.Arguments.{Depth, Settings, Rows, Plane, Call, planesLent, planesOf}
-use Rattle.slice.specs.Questions.{readingQuestions}
+use Rattle.calls.specs.Arguments.{Depth, Settings, Rows, Plane, Call, planesLent, planesOf}
+use Rattle.calls.specs.Questions.{readingQuestions}
 use Rattle.slice.specs.Calls.{readPlanes, decode}
 use Rattle.askorder.specs.Order.{perStream}
 use Rattle.asks.specs.ByNumbers.{sliceCall}

@@ -4,7 +4,7 @@ ghost use mathlib.Core.Path.{_≡_};
 ghost use mathlib.Core.List.{List};
 ghost use Prim.Native.Nat.{ℕ};
 ghost use lib.ListN.{length};
-ghost use Rattle.slice.specs.Arguments.{Depth};
+ghost use Rattle.calls.specs.Arguments.{Depth};
 ghost use Rattle.slice.specs.Calls.{decode};
 ghost use Rattle.asks.specs.ByNumbers.{planeCall, sliceCall};
 ghost use Rattle.judge.specs.Good.{buffers, positions};

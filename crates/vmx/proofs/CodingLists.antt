@@ -1,7 +1,7 @@
 -- Lists of coding calls: demand 3's coding half, of the exported functions by their own contracts.
 use mathlib.Core.Path.{_≡_}
 use mathlib.Core.List.{List}
-use Rattle.slice.specs.Arguments.{Call, PerStream, Buffers}
+use Rattle.calls.specs.Arguments.{Call, PerStream, Buffers}
 use Rattle.slice.specs.Calls.{Coded, encode, Decoded, decode}
 use Rattle.slice.specs.CallLists.{CodedAll, Coding}
 use Rattle.slice.specs.Demand3.{CodingHalf, Demand3}

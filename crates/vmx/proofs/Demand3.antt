@@ -1,6 +1,6 @@
 -- Demand 3, whole: of the exported coding and reading functions, by their own contracts. The claim is crates/slice/specs/Demand3.antt.
 use mathlib.Core.Path.{_≡_}
-use Rattle.slice.specs.Arguments.{Call, PerStream, Buffers}
+use Rattle.calls.specs.Arguments.{Call, PerStream, Buffers}
 use Rattle.slice.specs.Calls.{Decoded, decode}
 use Rattle.slice.specs.Demand3.{Demand3}
 use Rattle.vmx.proofs.Steps.{Codes}

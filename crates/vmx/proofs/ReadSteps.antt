@@ -3,7 +3,7 @@ use mathlib.Core.List.{List, [], _∷_}
 use Prim.Native.Nat.{ℕ}
 use contract.Lifetimes.{Lfts}
 use denote.Ref.{RefT, now}
-use Rattle.slice.specs.Arguments.{eight, ten, Call, onePlane, PerStream, Buffers}
+use Rattle.calls.specs.Arguments.{eight, ten, Call, onePlane, PerStream, Buffers}
 use Rattle.slice.specs.Calls.{Decoded}
 use Rattle.encplane.specs.Coding.{settings, plane}
 use Rattle.plane_outs.specs.Planes.{decodedAs}

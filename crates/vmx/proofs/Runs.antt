@@ -7,9 +7,9 @@ use lib.ListN.{length}
 use contract.Lifetimes.{Lfts}
 use denote.Ref.{RefT}
 use Rattle.ask.specs.Ask.{firstNo}
-use Rattle.slice.specs.Arguments.{Depth, eight, ten, Settings, Rows, Plane, Call, onePlane, oneSlice, settingsOf, planesLent, planesOf, PerStream, Buffers}
-use Rattle.slice.specs.ReadPlane.{BlockRead}
-use Rattle.slice.specs.Questions.{readingQuestions}
+use Rattle.calls.specs.Arguments.{Depth, eight, ten, Settings, Rows, Plane, Call, onePlane, oneSlice, settingsOf, planesLent, planesOf, PerStream, Buffers}
+use Rattle.calls.specs.ReadPlane.{BlockRead}
+use Rattle.calls.specs.Questions.{readingQuestions}
 use Rattle.slice.specs.Calls.{lengthsOf, encode, PlanesRead, badPlanes, planesRead, readPlanes, rowsOf, rowsMade, Decoded, decodedBy, decode}
 use Rattle.slice.specs.CallLists.{Coding, codedNone, codedThen, Reading, readNone, readThen}
 use Rattle.slice.proofs.Runs.{encodeAll, decodeAll}

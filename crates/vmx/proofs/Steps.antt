@@ -4,7 +4,7 @@ use mathlib.Core.List.{List}
 use Prim.Native.Nat.{ℕ}
 use contract.Lifetimes.{Lfts}
 use denote.Ref.{RefT, now}
-use Rattle.slice.specs.Arguments.{Settings, eight, ten, Call, onePlane, oneSlice, PerStream, Buffers}
+use Rattle.calls.specs.Arguments.{Settings, eight, ten, Call, onePlane, oneSlice, PerStream, Buffers}
 use Rattle.slice.specs.Calls.{Coded}
 use Rattle.encplane.specs.Coding.{settings, plane}
 use Rattle.encslice.specs.SliceCoding.{rows}

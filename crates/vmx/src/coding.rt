@@ -3,7 +3,7 @@
 // A call answers document 01's number, 0 where it is accepted. The positions are read from the places lent for them and left
 // there: behind what was written, or as they were given. A refused call leaves both buffers as they were.
 ghost use mathlib.Core.Path.{_≡_};
-ghost use Rattle.slice.specs.Arguments.{eight, ten};
+ghost use Rattle.calls.specs.Arguments.{eight, ten};
 ghost use Rattle.slice.specs.Calls.{encodePlane, encodeSlice};
 ghost use Rattle.encplane.specs.Coding.{settings, plane};
 ghost use Rattle.encslice.specs.SliceCoding.{rows};

@@ -3,7 +3,7 @@
 // A call answers document 01's number, 0 where it is accepted. The position is left behind the plane's stream; a refused
 // call leaves it, and the bytes lent for the answer, as they were.
 ghost use mathlib.Core.Path.{_≡_};
-ghost use Rattle.slice.specs.Previews.{preview, blockReport};
+ghost use Rattle.calls.specs.Previews.{preview, blockReport};
 ghost use Rattle.plane_outs.specs.Planes.{previewedAs, reportedAs};
 
 // One byte a block, two output rows, from the plane's DC stream.

@@ -4,7 +4,7 @@
 // there: behind what was read, or as they were given. A refused call leaves every sample as it was.
 ghost use mathlib.Core.Path.{_≡_};
 ghost use mathlib.Core.List.{[], _∷_};
-ghost use Rattle.slice.specs.Arguments.{eight, ten};
+ghost use Rattle.calls.specs.Arguments.{eight, ten};
 ghost use Rattle.slice.specs.Calls.{decodePlane, decodeSlice};
 ghost use Rattle.encplane.specs.Coding.{settings, plane};
 ghost use Rattle.encslice.specs.SliceCoding.{rows};

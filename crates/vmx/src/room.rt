@@ -3,7 +3,7 @@
 // A call answers document 01's number, 0 where it is accepted. The lengths go into the places lent for them; of a refused
 // call they are 0.
 ghost use mathlib.Core.Path.{_≡_};
-ghost use Rattle.slice.specs.Previews.{planeSize, sliceSize};
+ghost use Rattle.calls.specs.Previews.{planeSize, sliceSize};
 ghost use Rattle.plane_outs.specs.Planes.{sizedAs};
 
 // Of one plane.

@@ -4,7 +4,7 @@ use lib.IntN.{ℤ, pos}
 use borrow.Author.Needs.{needs, sfits-of}
 use mir.Facts.{toZ-ofZ}
 use Rattle.scalar.specs.Scalar.{addOf, sraOf}
-use Rattle.slice.specs.Streams.{codedDc}
+use Rattle.calls.specs.Streams.{codedDc}
 use Rattle.acblock.proofs.coded_dc.Statement.{statement}
 use Rattle.acblock.proofs.coded_dc.Tie as tie
 

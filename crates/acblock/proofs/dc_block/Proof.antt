@@ -8,7 +8,7 @@ use mir.Val.{toZ, ofZ}
 use mir.Facts.{toZ-ofZ}
 use Rattle.bits.specs.Signed.{codeOf}
 use Rattle.bits.specs.Bits.{bitsOf, valueCode}
-use Rattle.slice.specs.Streams.{stepCode}
+use Rattle.calls.specs.Streams.{stepCode}
 use Rattle.acblock.proofs.Codes.{code-step, code-some, zero-step, value-step, room-by, put-by}
 use Rattle.acblock.proofs.dc_block.Statement.{statement}
 use Rattle.acblock.proofs.dc_block.Tie as tie

@@ -4,7 +4,7 @@ use Prim.Native.Nat.{ℕ}
 use lib.IntN.{ℤ, pos}
 use borrow.Author.Needs.{needs, sfits-of}
 use mir.Facts.{toZ-ofZ}
-use Rattle.slice.specs.Streams.{halfStep}
+use Rattle.calls.specs.Streams.{halfStep}
 use Rattle.acblock.proofs.Codes.{half-is}
 use Rattle.acblock.proofs.half_step.Statement.{statement}
 use Rattle.acblock.proofs.half_step.Tie as tie

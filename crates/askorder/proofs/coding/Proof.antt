@@ -4,7 +4,7 @@ use mathlib.Core.Path.{sym, ap, _∙_}
 use mathlib.Core.Bool.{Bool, _&&_}
 use mathlib.Core.List.{[], _∷_}
 use Rattle.ask.specs.Ask.{ask, orElse}
-use Rattle.slice.specs.Questions.{together, fits, codingStartsQuestion}
+use Rattle.calls.specs.Questions.{together, fits, codingStartsQuestion}
 use Rattle.askorder.specs.Order.{perStream, roomOf}
 use Rattle.askorder.proofs.Laws.{none, put}
 use Rattle.askorder.proofs.coding.Statement.{statement}

@@ -4,7 +4,7 @@ use mathlib.Core.Path.{sym, ap, _∙_}
 use mathlib.Core.Bool.{Bool, _&&_}
 use mathlib.Core.List.{[], _∷_}
 use Rattle.ask.specs.Ask.{orElse}
-use Rattle.slice.specs.Questions.{readingStartsQuestion}
+use Rattle.calls.specs.Questions.{readingStartsQuestion}
 use Rattle.askorder.specs.Order.{perStream}
 use Rattle.askorder.proofs.Laws.{none, put}
 use Rattle.askorder.proofs.reading.Statement.{statement}

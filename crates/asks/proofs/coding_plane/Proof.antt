@@ -3,7 +3,7 @@ use borrow.Author.Needs.{needs}
 use mathlib.Core.Path.{refl, sym, ap, _∙_}
 use native.Mathlib.Omega.{arith}
 use lib.Dec.{leb}
-use Rattle.slice.specs.Questions.{strideOk, rowsNeeded}
+use Rattle.calls.specs.Questions.{strideOk, rowsNeeded}
 use Rattle.askorder.specs.Order.{perStream}
 use Rattle.asks.specs.ByNumbers.{planeCall}
 use Rattle.asks.proofs.Laws.{and-yes, coding-is}

@@ -8,7 +8,7 @@ use mir.Syntax.{w16}
 use mir.Val.{SFits}
 use Rattle.scalar.specs.Scalar.{addOf}
 use Rattle.scalar.proofs.Laws.{back, lane2}
-use Rattle.slice.specs.ReadPlane.{settle}
+use Rattle.calls.specs.ReadPlane.{settle}
 use Rattle.preview.specs.Row.{stepOf}
 use Rattle.blockread.proofs.Split.{block-next}
 use Rattle.blockread.proofs.Good.{first-steps, first-places}

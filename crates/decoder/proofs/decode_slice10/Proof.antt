@@ -2,7 +2,7 @@
 use mathlib.Core.Path.{_≡_, refl}
 use native.Mathlib.Omega.{arith}
 use borrow.Author.Needs.{needs}
-use Rattle.slice.specs.Arguments.{ten}
+use Rattle.calls.specs.Arguments.{ten}
 use Rattle.encslice.specs.SliceCoding.{rows}
 use Rattle.verdict.proofs.Slices.{Given}
 use Rattle.decoder.proofs.Slices.{may-store, slice-refused, slice-accepted}

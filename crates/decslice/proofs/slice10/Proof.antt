@@ -2,7 +2,7 @@
 use Prim.Native.Nat.{_≤_}
 use native.Mathlib.Omega.{arith}
 use borrow.Author.Needs.{needs}
-use Rattle.slice.specs.Arguments.{ten}
+use Rattle.calls.specs.Arguments.{ten}
 use Rattle.encplane.specs.Coding.{settings}
 use Rattle.encslice.specs.SliceCoding.{rows}
 use Rattle.decslice.proofs.Slices.{Given, ask-0, whole-1, ask-1, whole-2, ask-2, whole-3, ask-3, whole-4}

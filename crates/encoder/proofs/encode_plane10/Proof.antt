@@ -2,7 +2,7 @@
 use borrow.Author.Needs.{needs}
 use mathlib.Core.Path.{_≡_, refl, sym, _∙_}
 use native.Mathlib.Omega.{arith}
-use Rattle.slice.specs.Arguments.{ten}
+use Rattle.calls.specs.Arguments.{ten}
 use Rattle.asks.specs.ByNumbers.{planeCall}
 use Rattle.encoder.proofs.Laws.{number, refused-is, plane-ok, plane-is}
 use Rattle.encoder.proofs.encode_plane10.Statement.{statement}

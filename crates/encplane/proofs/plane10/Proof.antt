@@ -6,7 +6,7 @@ use native.Mathlib.Omega.{arith}
 use lib.IntN.{ℤ}
 use lib.ListN.{length}
 use borrow.Author.Needs.{needs}
-use Rattle.slice.specs.Arguments.{ten}
+use Rattle.calls.specs.Arguments.{ten}
 use Rattle.slice.specs.Plane.{blockCoefficients}
 use Rattle.bitacc.proofs.Writer.{wrote-length}
 use Rattle.encplane.specs.Coding.{plane}

@@ -2,7 +2,7 @@
 use mathlib.Core.Path.{_∙_}
 use Prim.Native.Nat.{_<_}
 use borrow.Author.Needs.{needs}
-use Rattle.slice.specs.Arguments.{ten}
+use Rattle.calls.specs.Arguments.{ten}
 use Rattle.encplane.specs.Coding.{settings}
 use Rattle.encslice.specs.SliceCoding.{rows}
 use Rattle.encslice.proofs.Slices.{Given, First, ask-0, did-0, ask-1, did-1, ask-2, did-2, ask-3, did-3, whole, at-most}

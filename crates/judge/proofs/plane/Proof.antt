@@ -3,7 +3,7 @@ use mathlib.Core.Path.{sym, _∙_}
 use Prim.Native.Nat.{_*_}
 use native.Mathlib.Omega.{arith}
 use Rattle.bits.specs.Bits.{bitAt}
-use Rattle.slice.specs.ReadPlane.{readBlocks}
+use Rattle.calls.specs.ReadPlane.{readBlocks}
 use Rattle.report.specs.Report.{blockEnds, goodEnds}
 use Rattle.judge.proofs.Planes.{plane-good, both-streams, dc-bad}
 use Rattle.judge.proofs.plane.Statement.{statement}

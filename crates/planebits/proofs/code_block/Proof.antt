@@ -9,9 +9,9 @@ use mir.Syntax.{w16, w32}
 use mir.Val.{SFits, toZ, ofZ}
 use mir.Facts.{toZ-ofZ}
 use Rattle.scalar.specs.Tab.{lane}
-use Rattle.slice.specs.Streams.{codedDc}
-use Rattle.slice.proofs.DcBack.{abs-less}
-use Rattle.slice.proofs.DcNear.{dc-near}
+use Rattle.calls.specs.Streams.{codedDc}
+use Rattle.calls.proofs.DcBack.{abs-less}
+use Rattle.calls.proofs.DcNear.{dc-near}
 use Rattle.planebits.proofs.Blocks.{coded-one}
 use Rattle.planebits.proofs.code_block.Statement.{statement}
 use Rattle.planebits.proofs.code_block.Tie as tie

@@ -1,6 +1,6 @@
 -- `planes::level10`.
 use native.Mathlib.Omega.{arith}
-use Rattle.slice.specs.Arguments.{ten}
+use Rattle.calls.specs.Arguments.{ten}
 use Rattle.planes.proofs.Laws.{level-at-0, level-at-3, level-else}
 use Rattle.planes.proofs.level10.Statement.{statement}
 use Rattle.planes.proofs.level10.Tie as tie

@@ -1,6 +1,6 @@
 -- `planes::level8`.
 use native.Mathlib.Omega.{arith}
-use Rattle.slice.specs.Arguments.{eight}
+use Rattle.calls.specs.Arguments.{eight}
 use Rattle.planes.proofs.Laws.{level-at-0, level-at-3, level-else}
 use Rattle.planes.proofs.level8.Statement.{statement}
 use Rattle.planes.proofs.level8.Tie as tie

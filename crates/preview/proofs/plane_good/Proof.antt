@@ -4,7 +4,7 @@ use Prim.Native.Nat.{_*_}
 use native.Mathlib.Omega.{arith}
 use borrow.Author.Needs.{needs}
 use Rattle.bits.specs.Bits.{bitAt}
-use Rattle.slice.specs.ReadPlane.{readSteps}
+use Rattle.calls.specs.ReadPlane.{readSteps}
 use Rattle.preview.specs.Row.{endSays}
 use Rattle.preview.specs.declared.PlaneEnd.the-variants as plane
 use Rattle.preview.proofs.Rows.{good-end, bad-end}

@@ -4,7 +4,7 @@ use native.Mathlib.Omega.{arith}
 use borrow.Author.Needs.{needs}
 use lib.ListN.{length}
 use Rattle.ask.specs.Ask.{firstNo}
-use Rattle.slice.specs.Questions.{previewQuestions}
+use Rattle.calls.specs.Questions.{previewQuestions}
 use Rattle.preview.proofs.Asked.{Yes, yes, answer-no, answer-bad, answer-end}
 use Rattle.preview.proofs.preview.Statement.{statement}
 use Rattle.preview.proofs.preview.Tie as tie

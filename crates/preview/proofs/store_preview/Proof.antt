@@ -5,8 +5,8 @@ use borrow.Author.Needs.{needs, sfits-of}
 use mir.Facts.{toZ-ofZ}
 use mir.Syntax.{w16}
 use mir.Val.{ofZ, toZ}
-use Rattle.slice.specs.Arguments.{eight}
-use Rattle.slice.specs.Plane.{level}
+use Rattle.calls.specs.Arguments.{eight}
+use Rattle.calls.specs.Grid.{level}
 use Rattle.preview.proofs.Rows.{rows-stored}
 use Rattle.preview.proofs.store_preview.Statement.{statement}
 use Rattle.preview.proofs.store_preview.Tie as tie

@@ -6,8 +6,8 @@ use borrow.Author.Needs.{needs}
 use lib.ListN.{length}
 use Rattle.ask.specs.Ask.{firstNo}
 use Rattle.bits.specs.Bits.{bitAt}
-use Rattle.slice.specs.ReadPlane.{readBlocks}
-use Rattle.slice.specs.Questions.{reportQuestions}
+use Rattle.calls.specs.ReadPlane.{readBlocks}
+use Rattle.calls.specs.Questions.{reportQuestions}
 use Rattle.report.proofs.Blocks.{not-good}
 use Rattle.report.proofs.Asked.{yes, answer-no, answer-bad, answer-end}
 use Rattle.report.proofs.block_report.Statement.{statement}

@@ -4,7 +4,7 @@ use Prim.Native.Nat.{_*_}
 use native.Mathlib.Omega.{arith}
 use borrow.Author.Needs.{needs}
 use Rattle.bits.specs.Bits.{bitAt}
-use Rattle.slice.specs.ReadPlane.{readBlocks}
+use Rattle.calls.specs.ReadPlane.{readBlocks}
 use Rattle.report.specs.Report.{endSays}
 use Rattle.report.specs.declared.PlaneEnd.the-variants as plane
 use Rattle.report.proofs.Blocks.{good-end, bad-end}

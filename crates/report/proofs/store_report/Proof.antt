@@ -7,7 +7,7 @@ use lib.ListN.{length, length-set}
 use Rattle.ask.specs.Ask.{accepted}
 use Rattle.bits.specs.Bits.{bitAt}
 use Rattle.bits.specs.Lay.{lay}
-use Rattle.slice.specs.ReadPlane.{readBlocks}
+use Rattle.calls.specs.ReadPlane.{readBlocks}
 use Rattle.report.specs.Report.{reportsOf}
 use Rattle.report.proofs.Blocks.{end-at}
 use Rattle.report.proofs.Going.{Going, going-start, going-left, going-next, going-over, stored, not-bad, stored-all}

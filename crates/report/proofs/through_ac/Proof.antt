@@ -2,7 +2,7 @@
 use Rattle.ask.specs.Ask.{refused, accepted}
 use Rattle.bits.specs.Bits.{bitAt, bytesFor}
 use Rattle.bitreader.specs.declared.AcCursor.{AcCursor}
-use Rattle.slice.specs.ReadPlane.{readBlocks}
+use Rattle.calls.specs.ReadPlane.{readBlocks}
 use Prim.Native.Nat.{suc, _+_, _-_, _*_, _≤_}
 use mathlib.Core.Path.{_≡_, refl, ap, _∙_}
 use mathlib.Core.Logic.{⊎-elim}

@@ -4,7 +4,7 @@ use borrow.Author.Tests.{not-true, not-false}
 use mathlib.Core.Path.{_≡_, sym, _∙_}
 use mathlib.Core.Bool.{true}
 use native.Mathlib.Omega.{arith}
-use Rattle.slice.specs.Questions.{strideOk}
+use Rattle.calls.specs.Questions.{strideOk}
 use Rattle.sizes.proofs.Laws.{plane-no, plane-yes, plane-columns}
 use Rattle.sizes.proofs.plane_size.Statement.{statement}
 use Rattle.sizes.proofs.plane_size.Tie as tie

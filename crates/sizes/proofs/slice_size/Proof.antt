@@ -7,7 +7,7 @@ use mathlib.Core.List.{[], _∷_}
 use lib.ListN.{take}
 use native.Mathlib.Omega.{arith}
 use Prim.Native.Nat.{_≤_}
-use Rattle.slice.specs.Questions.{strideOk, countOk}
+use Rattle.calls.specs.Questions.{strideOk, countOk}
 use Rattle.askfour.specs.Firsts.{allOf}
 use Rattle.sizes.proofs.Laws.{no-count, no-strides, slice-yes, slice-columns}
 use Rattle.sizes.proofs.slice_size.Statement.{statement}

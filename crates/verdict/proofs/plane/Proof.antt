@@ -5,7 +5,7 @@ use Prim.Native.Nat.{ℕ}
 use native.Mathlib.Omega.{arith}
 use lib.ListN.{replicate, length-replicate}
 use borrow.Author.Needs.{needs}
-use Rattle.slice.specs.Arguments.{eight}
+use Rattle.calls.specs.Arguments.{eight}
 use Rattle.verdict.proofs.Planes.{may-judge, plane-no, plane-bad, plane-good}
 use Rattle.verdict.proofs.plane.Statement.{statement}
 use Rattle.verdict.proofs.plane.Tie as tie

@@ -5,7 +5,7 @@ use Prim.Native.Nat.{ℕ}
 use native.Mathlib.Omega.{arith}
 use lib.ListN.{replicate, length-replicate}
 use borrow.Author.Needs.{needs}
-use Rattle.slice.specs.Arguments.{Depth, eight}
+use Rattle.calls.specs.Arguments.{Depth, eight}
 use Rattle.verdict.proofs.Slices.{Given, may-judge, slice-no, slice-bad, slice-good}
 use Rattle.verdict.proofs.slice.Statement.{statement}
 use Rattle.verdict.proofs.slice.Tie as tie

@@ -16,10 +16,10 @@ use Rattle.bits.specs.Signed.{codeOf, signedOf}
 use Rattle.bits.specs.Read.{readTail, DcCode, zeroStep, step, readDc}
 use Rattle.bits.proofs.Codes.{At, at-append, value-tail}
 use Rattle.bits.proofs.SignedBack.{signed-code, wrap16-same, code-value, code-le}
-use Rattle.slice.specs.Streams.{stepsFrom, stepCode, stepCodes}
-use Rattle.slice.specs.ReadPlane.{DcStep, keep, replace, DcSteps, dcSteps, readSteps, settle, predicted}
-use Rattle.slice.proofs.AcBack.{Fit16, suc-not, neg-not}
-use Rattle.slice.proofs.Residues.{shift-add, shift-zero}
+use Rattle.calls.specs.Streams.{stepsFrom, stepCode, stepCodes}
+use Rattle.calls.specs.ReadPlane.{DcStep, keep, replace, DcSteps, dcSteps, readSteps, settle, predicted}
+use Rattle.calls.proofs.AcBack.{Fit16, suc-not, neg-not}
+use Rattle.calls.proofs.Residues.{shift-add, shift-zero}
 
 -- a step as it is read
 abbrev pub asRead : ℤ → DcStep

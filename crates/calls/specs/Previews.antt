@@ -8,10 +8,10 @@ use Rattle.scalar.specs.Scalar.{addOf, sraOf, modZ}
 use Rattle.bits.specs.Bits.{bitAt, bytesFor}
 use Rattle.bits.specs.Lay.{lay}
 use Rattle.ask.specs.Ask.{firstNo}
-use Rattle.slice.specs.Arguments.{eight, Settings, Rows, Plane, planeAt, PerStream}
-use Rattle.slice.specs.ReadPlane.{BlockRead, Blocks, badBlocks, blocks, readBlocks, DcStep, DcSteps, badSteps, dcSteps, readSteps, predicted}
-use Rattle.slice.specs.Plane.{columnsOf, blocksOf, level}
-use Rattle.slice.specs.Questions.{previewQuestions, reportQuestions, planeSizeQuestions, sliceSizeQuestions, badCode, lengthsAtMost, together}
+use Rattle.calls.specs.Arguments.{eight, Settings, Rows, Plane, planeAt, PerStream}
+use Rattle.calls.specs.ReadPlane.{BlockRead, Blocks, badBlocks, blocks, readBlocks, DcStep, DcSteps, badSteps, dcSteps, readSteps, predicted}
+use Rattle.calls.specs.Grid.{columnsOf, blocksOf, level}
+use Rattle.calls.specs.Questions.{previewQuestions, reportQuestions, planeSizeQuestions, sliceSizeQuestions, badCode, lengthsAtMost, together}
 
 -- ---- preview
 

@@ -5,8 +5,8 @@ use Prim.Native.Nat.{ℕ, _+_, _*_, _/_, _%_}
 use lib.Dec.{leb, eqb}
 use lib.ListN.{length}
 use Rattle.ask.specs.Ask.{Question, ask}
-use Rattle.slice.specs.Arguments.{Settings, Rows, Plane, Call, onePlane, oneSlice, settingsOf, planesOf, PerStream}
-use Rattle.slice.specs.Plane.{columnsOf, blocksOf}
+use Rattle.calls.specs.Arguments.{Settings, Rows, Plane, Call, onePlane, oneSlice, settingsOf, planesOf, PerStream}
+use Rattle.calls.specs.Grid.{columnsOf, blocksOf}
 
 -- "Preset 0 to 24? No: 1."
 abbrev pub presetQuestion : ℕ → Question

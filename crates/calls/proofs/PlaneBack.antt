@@ -17,11 +17,11 @@ use Rattle.bits.specs.Signed.{signedOf}
 use Rattle.bits.specs.Read.{Symbol, badSymbol, run, value, readSymbol}
 use Rattle.bits.proofs.Codes.{At}
 use Rattle.bits.proofs.PackBack.{padToByte-at, length-padToByte}
-use Rattle.slice.specs.Streams.{codedDc, stepsFrom, stepCodes, dcOf, withDc, dcStream, symbolCodes, joined, acStream}
-use Rattle.slice.specs.ReadPlane.{Places, badPlaces, places, placeThen, bySymbol, readPlaces, BlockRead, Blocks, badBlocks, blocks, readBlocks, DcSteps, dcSteps, readSteps, predicted, acDcs, withDcs, PlaneRead, planeRead, bothStreams, readPlane}
-use Rattle.slice.proofs.AcBack.{Fit16, ac-back}
-use Rattle.slice.proofs.Residues.{shift-zero}
-use Rattle.slice.proofs.DcBack.{asRead, steps-back, predicted-back, length-steps, steps-small}
+use Rattle.calls.specs.Streams.{codedDc, stepsFrom, stepCodes, dcOf, withDc, dcStream, symbolCodes, joined, acStream}
+use Rattle.calls.specs.ReadPlane.{Places, badPlaces, places, placeThen, bySymbol, readPlaces, BlockRead, Blocks, badBlocks, blocks, readBlocks, DcSteps, dcSteps, readSteps, predicted, acDcs, withDcs, PlaneRead, planeRead, bothStreams, readPlane}
+use Rattle.calls.proofs.AcBack.{Fit16, ac-back}
+use Rattle.calls.proofs.Residues.{shift-zero}
+use Rattle.calls.proofs.DcBack.{asRead, steps-back, predicted-back, length-steps, steps-small}
 
 -- ---- what is read in two parts
 never : {cs : List ℤ} {q r : ℕ} → badPlaces ≡ places cs q r → ⊥

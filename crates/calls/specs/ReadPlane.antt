@@ -8,7 +8,7 @@ use Rattle.scalar.specs.Scalar.{addOf, sllOf}
 use Rattle.bits.specs.Bits.{Stream, bitAt, bytesFor}
 use Rattle.bits.specs.Signed.{signedOf}
 use Rattle.bits.specs.Read.{Symbol, badSymbol, run, value, readSymbol, DcCode, badDc, zeroStep, step, readDc}
-use Rattle.slice.specs.Streams.{dcOf, withDc}
+use Rattle.calls.specs.Streams.{dcOf, withDc}
 
 -- AC, place by place: the coefficients read, the bit behind the last code, and the zeros of a run that are still to come
 pub data Places : Type 0 where

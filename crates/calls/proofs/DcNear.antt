@@ -14,7 +14,7 @@ use mir.Val.{SFits, toZ, ofZ}
 use mir.Facts.{toZ-ofZ, toZ-pos}
 use Rattle.scalar.specs.Scalar.{wrap16, addOf, sraOf, sllOf}
 use Rattle.bits.proofs.SignedBack.{wrap16-same}
-use Rattle.slice.specs.Streams.{halfStep, codedDc}
+use Rattle.calls.specs.Streams.{halfStep, codedDc}
 
 -- two numbers that are no further apart than k
 apart : (a b k : ℕ) → a ≤ b + k → b ≤ a + k → natAbs (subℕ a b) ≤ k

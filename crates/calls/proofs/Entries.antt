@@ -9,8 +9,8 @@ use Rattle.bits.specs.Bits.{bitsOf, halvings, bitLength, spread, valueCode, run
 use Rattle.bits.specs.Signed.{codeOf, signedOf}
 use Rattle.bits.specs.Read.{zeros, tailAt, readTail, readSymbol, readDc}
 use Rattle.scalar.specs.Scalar.{wrap16, addOf, sraOf, sllOf}
-use Rattle.slice.specs.Streams.{codedDc, stepsFrom, stepCode, stepCodes, dcStream, symbolCodes, acStream}
-use Rattle.slice.specs.ReadPlane.{readPlaces, BlockRead, readBlocks, readSteps, predicted, PlaneRead, badPlane, planeRead, readPlane}
+use Rattle.calls.specs.Streams.{codedDc, stepsFrom, stepCode, stepCodes, dcStream, symbolCodes, acStream}
+use Rattle.calls.specs.ReadPlane.{readPlaces, BlockRead, readBlocks, readSteps, predicted, PlaneRead, badPlane, planeRead, readPlane}
 
 flatBlock : ℤ → List ℤ
 flatBlock d = d ∷ replicate 63 (pos 0)

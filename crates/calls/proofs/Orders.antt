@@ -6,9 +6,9 @@ use lib.IntN.{ℤ, pos}
 use lib.ListN.{replicate}
 use Rattle.scalar.specs.Scalar.{wrap16, addOf, sraOf}
 use Rattle.ask.specs.Ask.{firstNo}
-use Rattle.slice.specs.Arguments.{eight, Settings, Rows, Plane, Call, onePlane, oneSlice, PerStream}
-use Rattle.slice.specs.Questions.{codingQuestions, readingQuestions, previewQuestions, reportQuestions, planeSizeQuestions, sliceSizeQuestions}
-use Rattle.slice.specs.Previews.{previewByte, firstOfFour, planeSize, sliceSize}
+use Rattle.calls.specs.Arguments.{eight, Settings, Rows, Plane, Call, onePlane, oneSlice, PerStream}
+use Rattle.calls.specs.Questions.{codingQuestions, readingQuestions, previewQuestions, reportQuestions, planeSizeQuestions, sliceSizeQuestions}
+use Rattle.calls.specs.Previews.{previewByte, firstOfFour, planeSize, sliceSize}
 
 settings : ℕ → ℕ → Settings
 settings preset shift = record { depth = eight; preset = preset; shift = shift }

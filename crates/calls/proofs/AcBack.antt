@@ -11,8 +11,8 @@ use Rattle.bits.specs.Bits.{valueCode, runCode, Stream}
 use Rattle.bits.specs.Signed.{codeOf, signedOf}
 use Rattle.bits.proofs.Codes.{At, at-append, value-back, run-back}
 use Rattle.bits.proofs.SignedBack.{signed-back, code-value, code-le}
-use Rattle.slice.specs.Streams.{symbolCodes}
-use Rattle.slice.specs.ReadPlane.{Places, places, readPlaces}
+use Rattle.calls.specs.Streams.{symbolCodes}
+use Rattle.calls.specs.ReadPlane.{Places, places, readPlaces}
 
 -- numbers of 16 bits
 abbrev pub Fit16 : List ℤ → Type 0

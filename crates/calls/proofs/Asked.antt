@@ -7,8 +7,8 @@ use native.Mathlib.Omega.{arith}
 use lib.Dec.{T, leb, eqb, leb→le}
 use lib.ListN.{length}
 use Rattle.ask.specs.Ask.{Question, ask, orElse, firstNo}
-use Rattle.slice.specs.Arguments.{Settings, Plane, Call, settingsOf, planesOf, PerStream}
-use Rattle.slice.specs.Questions.{whichPlanesOk, strideOk, rowsOk, each, together, roomForAll, fits, startOk, badCode, codingQuestions, readingQuestions}
+use Rattle.calls.specs.Arguments.{Settings, Plane, Call, settingsOf, planesOf, PerStream}
+use Rattle.calls.specs.Questions.{whichPlanesOk, strideOk, rowsOk, each, together, roomForAll, fits, startOk, badCode, codingQuestions, readingQuestions}
 
 passed : (b : Bool) (n : ℕ) (qs : List Question) → firstNo (ask b (suc n) ∷ qs) ≡ 0 → (T b) × (firstNo qs ≡ 0)
 unfolding firstNo

@@ -10,9 +10,9 @@ use Rattle.bits.specs.Signed.{codeOf}
 use Rattle.bits.proofs.Codes.{Digits, digits, digits-lt, length-spread}
 use Rattle.bits.proofs.PackBack.{length-padToByte}
 use Rattle.bits.proofs.SignedBack.{code-le}
-use Rattle.slice.specs.Streams.{codedDc, stepsFrom, stepCode, stepCodes, dcOf, withDc, dcStream, symbolCodes, joined, acStream}
-use Rattle.slice.proofs.DcBack.{abs-less}
-use Rattle.slice.proofs.DcNear.{dc-near}
+use Rattle.calls.specs.Streams.{codedDc, stepsFrom, stepCode, stepCodes, dcOf, withDc, dcStream, symbolCodes, joined, acStream}
+use Rattle.calls.proofs.DcBack.{abs-less}
+use Rattle.calls.proofs.DcNear.{dc-near}
 
 value-length : (c m : ℕ) → c < 2 ^ suc m → length (valueCode c) ≤ m + suc m
 unfolding valueCode bitLength halvings spread

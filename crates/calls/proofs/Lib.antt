@@ -1,0 +1,10 @@
+pub mod Entries
+pub mod Orders
+pub mod AcBack
+pub mod Residues
+pub mod DcBack
+pub mod DcNear
+pub mod PlaneBack
+pub mod Size
+pub mod Fits
+pub mod Asked

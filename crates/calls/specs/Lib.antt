@@ -1,0 +1,6 @@
+pub mod Arguments
+pub mod Grid
+pub mod Streams
+pub mod ReadPlane
+pub mod Questions
+pub mod Previews
