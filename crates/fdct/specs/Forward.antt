@@ -6,11 +6,12 @@ use mathlib.Core.List.{List}
 use Prim.Native.Nat.{ℕ, zero, suc, _+_, _*_, _/_, _%_}
 use lib.IntN.{ℤ, pos, negℤ}
 use lib.ListN.{getD}
-use Rattle.scalar.specs.Scalar.{addsOf}
 use Rattle.scalar.specs.Tab.{tab}
 use Rattle.fcol.specs.Steps.{columnOf}
 use Rattle.fcol.specs.declared.Lanes.{Lanes}
 use Rattle.frow.specs.Rows.{at, rowsOf}
+pub use Rattle.flevel.specs.Level.{levelAt}
+unfoldable pub use Rattle.flevel.specs.Level.{levelOf}
 
 -- "A u8 sample is its own lane; a u16 sample's lane is the sample shifted right by 6": the block at the corner of the rows
 abbrev pub lane8At : List ℕ → ℕ → ℕ → ℤ
@@ -24,13 +25,6 @@ lane16At rows stride i = pos (getD rows (i / 8 * stride + i % 8) 0 / 64)
 
 unfoldable pub lanes16Of : List ℕ → ℕ → List ℤ
 lanes16Of rows stride = tab 64 (lane16At rows stride)
-
--- the level shift
-abbrev pub levelAt : ℤ → List ℤ → ℕ → ℤ
-levelAt add b i = addsOf (at b i) add
-
-unfoldable pub levelOf : ℤ → List ℤ → List ℤ
-levelOf add b = tab 64 (levelAt add b)
 
 -- the column pass of column j
 abbrev pub columnAt : ℕ → List ℤ → ℕ → Lanes

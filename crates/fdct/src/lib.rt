@@ -3,19 +3,8 @@ pub mod load;
 
 ghost use mathlib.Core.Path.{_≡_};
 ghost use Prim.Native.Nat.{_<_};
-ghost use Rattle.fdct.specs.Forward.{levelOf, columnsOf, transformOf};
-use scalar::adds1;
-
-// The level shift: add on each lane, saturating.
-pub fn level(b: [i16; 64], add: i16) -> [i16; 64]
-    ensures { λ r. ⌜ r ≡ levelOf add b ⌝ }
-{
-    let mut c = [0i16; 64];
-    for i in 0..64 {
-        c[i] = adds1(b[i], add);
-    }
-    c
-}
+ghost use Rattle.fdct.specs.Forward.{columnsOf, transformOf};
+use flevel::level;
 
 // The column pass, one column a turn.
 pub fn columns(b: [i16; 64], shift: u32) -> [i16; 64]

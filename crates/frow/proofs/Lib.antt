@@ -1,4 +1,2 @@
-pub mod Places
-pub mod Opposite
 pub mod Wrap
 pub mod Whole

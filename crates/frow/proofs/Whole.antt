@@ -12,8 +12,10 @@ use borrow.Author.Tests.{ltb-true, ltb-false}
 use Rattle.scalar.specs.Scalar.{sat16, maddOf, add32Of, sraOf}
 use Rattle.scalar.specs.Tab.{tab}
 use Rattle.scalar.proofs.Fill.{getD-tab, tab-ext}
+use Rattle.frow_tail.specs.Tail.{tailOf}
+use Rattle.frow_order.specs.Order.{sidesOf, swapOf, pairsOf, halfOf, joinOf}
 use Rattle.frow.specs.Rows.{at, sideAt, tableAt, dotOf, entryOf, nearOf, farOf, coefficientAt, rowsOf}
-use Rattle.frow.specs.Order.{sidesOf, swapOf, tablePart, pairsOf, tailOf, halfOf, joinOf}
+use Rattle.frow.specs.Parts.{tablePart}
 use Rattle.frow.proofs.Wrap.{four}
 
 tail-dot : (x0 c0 x1 c1 x2 c2 x3 c3 : ℤ) → tailOf (maddOf x0 c0 x1 c1) (maddOf x2 c2 x3 c3) ≡ dotOf x0 c0 x1 c1 x2 c2 x3 c3

@@ -1,19 +1,15 @@
 -- The forward transform's row pass. Document 01, 'Lanes and the block':
 -- "Promises describe the row passes as sums of four products (forward) .., rounded, shifted and saturated; the 32-bit sums wrap."
-use mathlib.Core.Bool.{Bool, true, false}
 use mathlib.Core.List.{List, [], _∷_}
 use Prim.Native.Nat.{ℕ, zero, suc, _+_, _-_, _*_, _/_, _%_}
 use lib.IntN.{ℤ, pos, _+ℤ_, _*ℤ_}
-use lib.Dec.{eqb}
 use lib.ListN.{getD}
 use mir.Syntax.{w16}
 use mir.Val.{toZ}
-use Rattle.scalar.specs.Scalar.{sat16, wrap32, addsOf, subsOf, sraOf}
+use Rattle.scalar.specs.Scalar.{sat16, wrap32, sraOf}
 use Rattle.scalar.specs.Tab.{tab}
-
--- what stands at a place of a block
-abbrev pub at : List ℤ → ℕ → ℤ
-at b i = getD b i (pos 0)
+pub use Rattle.frow_order.specs.Sides.{at, addOrSub}
+unfoldable pub use Rattle.frow_order.specs.Sides.{sideAt}
 
 -- FTAB1 to FTAB4 of tables.rs
 unfoldable pub ftab1 : List ℕ
@@ -58,14 +54,6 @@ rowTable (suc (suc (suc (suc (suc (suc (suc r))))))) = ftab2
 -- entry j of the table of row r: 16 bits, read as signed
 unfoldable pub tableAt : ℕ → ℕ → ℤ
 tableAt r j = toZ w16 (getD (rowTable r) j 0)
-
-abbrev pub addOrSub : Bool → ℤ → ℤ → ℤ
-addOrSub true a b = addsOf a b
-addOrSub false a b = subsOf a b
-
--- lane k of row r and its opposite: added for the even coefficients, subtracted for the odd ones
-unfoldable pub sideAt : List ℤ → ℕ → ℕ → ℕ → ℤ
-sideAt b r u k = addOrSub (eqb (u % 2) 0) (at b (8 * r + k)) (at b (8 * r + (7 - k)))
 
 -- a sum of four products, rounded, shifted by 16 and saturated; the 32-bit sum wraps
 unfoldable pub dotOf : ℤ → ℤ → ℤ → ℤ → ℤ → ℤ → ℤ → ℤ → ℤ

@@ -2,7 +2,7 @@
 use borrow.Author.Needs.{needs}
 use Rattle.scalar.specs.Tab.{tabFrom}
 use Rattle.frow.specs.Rows.{ftab1, ftab2, ftab3, ftab4, tableAt}
-use Rattle.frow.specs.Order.{tablePart}
+use Rattle.frow.specs.Parts.{tablePart}
 use Rattle.frow.proofs.Whole.{row-law}
 use Rattle.frow.proofs.row_pass.Statement.{statement}
 use Rattle.frow.proofs.row_pass.Tie as tie
