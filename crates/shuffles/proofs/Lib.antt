@@ -1,4 +1,2 @@
-pub mod Places
-pub mod Mask
-pub mod Weights
+pub mod Turns
 pub mod Examples

@@ -1,6 +1,6 @@
 use borrow.Author.Needs.{needs, sfits-of}
 use Rattle.shuffles.specs.Shuffles.{mm-unpacklo-epi32-16}
-use Rattle.shuffles.proofs.Places.{eight-back}
+use Rattle.shuffles.proofs.Turns.{eight-back}
 use Rattle.shuffles.proofs.unpacklo32.Statement.{statement}
 use Rattle.shuffles.proofs.unpacklo32.Tie as tie
 

@@ -1,8 +1,8 @@
 use borrow.Author.Needs.{needs}
 use mathlib.Core.Path.{_∙_}
-use Rattle.shuffles.proofs.Places.{low-selects, low-keeps}
-use Rattle.shuffles.proofs.low_place.Statement.{statement}
-use Rattle.shuffles.proofs.low_place.Tie as tie
+use Rattle.shuffle_places.proofs.Places.{low-selects, low-keeps}
+use Rattle.shuffle_places.proofs.low_place.Statement.{statement}
+use Rattle.shuffle_places.proofs.low_place.Tie as tie
 
 returns : tie.Need-returns
 returns c =

@@ -1,10 +1,10 @@
 use mathlib.Core.Path.{ap}
 use Prim.Native.Nat.{ℕ, _+_, _*_, _/_, _%_}
 use native.Mathlib.Omega.{arith}
-use Rattle.shuffles.specs.Shuffles.{pairPlace, selector}
-use Rattle.shuffles.proofs.Places.{selector-lt}
-use Rattle.shuffles.proofs.pair_place.Statement.{statement}
-use Rattle.shuffles.proofs.pair_place.Tie as tie
+use Rattle.shuffle_places.specs.Chosen.{pairPlace, selector}
+use Rattle.shuffle_places.proofs.Places.{selector-lt}
+use Rattle.shuffle_places.proofs.pair_place.Statement.{statement}
+use Rattle.shuffle_places.proofs.pair_place.Tie as tie
 
 mul-result : tie.Need-mul-result
 mul-result c = record { fits = omega (arith, c .selector .ensures, selector-lt (c .before .args .imm) (c .before .args .k / 2)) }

@@ -6,7 +6,7 @@ use native.Mathlib.Omega.{arith}
 use lib.IntN.{ℤ, pos, negsuc}
 use lib.Pow.{shr-le, shr-shr}
 use Rattle.scalar.specs.Tab.{lane}
-use Rattle.shuffles.specs.Shuffles.{flag, nonzeroMask}
+use Rattle.nonzero.specs.Mask.{flag, nonzeroMask}
 
 flag-le : (x : ℤ) → flag x ≤ 1
 unfolding flag

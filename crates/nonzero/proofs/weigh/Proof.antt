@@ -1,11 +1,11 @@
--- `shuffles::weigh`.
+-- `nonzero::weigh`.
 use mathlib.Core.Path.{sym, ap, _∙_}
 use mir.Syntax.{w16}
 use mir.Val.{toZ, ofZ}
 use mir.Facts.{toZ-ofZ}
-use Rattle.shuffles.proofs.Weights.{weigh-zero, weigh-other}
-use Rattle.shuffles.proofs.weigh.Statement.{statement}
-use Rattle.shuffles.proofs.weigh.Tie as tie
+use Rattle.nonzero.proofs.Weights.{weigh-zero, weigh-other}
+use Rattle.nonzero.proofs.weigh.Statement.{statement}
+use Rattle.nonzero.proofs.weigh.Tie as tie
 
 returns : tie.Need-returns
 returns c = weigh-zero (c .before .args .x) (c .before .args .w) (sym (toZ-ofZ (c .before .fits .x)) ∙ ap (toZ w16) (c .if1 .taken))

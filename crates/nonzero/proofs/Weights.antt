@@ -9,7 +9,7 @@ use lib.Pow.{shl-exact}
 use lib.Seq.{drop-cons}
 use Rattle.scalar.specs.Tab.{lane}
 use Rattle.scalar.proofs.Fill.{getD-tab}
-use Rattle.shuffles.specs.Shuffles.{flag, nonzeroMask, weighed, Light, eightFrom, halfFrom}
+use Rattle.nonzero.specs.Mask.{flag, nonzeroMask, weighed, Light, eightFrom, halfFrom}
 
 pub weigh-zero : (x : ℤ) (w : ℕ) → x ≡ pos 0 → 0 ≡ flag x * w
 unfolding flag

@@ -1,8 +1,8 @@
 use borrow.Author.Needs.{needs}
 use mathlib.Core.Path.{refl}
-use Rattle.shuffles.specs.Shuffles.{selector}
-use Rattle.shuffles.proofs.selector.Statement.{statement}
-use Rattle.shuffles.proofs.selector.Tie as tie
+use Rattle.shuffle_places.specs.Chosen.{selector}
+use Rattle.shuffle_places.proofs.selector.Statement.{statement}
+use Rattle.shuffle_places.proofs.selector.Tie as tie
 
 returns : tie.Need-returns
 unfolding selector

@@ -1,4 +1,4 @@
--- `shuffles::weigh_all` fills the places in order.
+-- `nonzero::weigh_all` fills the places in order.
 use borrow.Author.Needs.{needs, sfits-of}
 use mathlib.Core.Path.{_≡_, refl, ap₂, _∙_}
 use Prim.Native.Nat.{ℕ, _-_, _*_, _%_, _^_}
@@ -7,10 +7,10 @@ use lib.IntN.{ℤ}
 use mir.Facts.{toZ-ofZ}
 use Rattle.scalar.specs.Tab.{lane}
 use Rattle.scalar.proofs.Fill.{Filled, filled-next, filled-done}
-use Rattle.shuffles.specs.Shuffles.{flag, weighed}
-use Rattle.shuffles.proofs.Weights.{bit-is}
-use Rattle.shuffles.proofs.weigh_all.Statement.{statement}
-use Rattle.shuffles.proofs.weigh_all.Tie as tie
+use Rattle.nonzero.specs.Mask.{flag, weighed}
+use Rattle.nonzero.proofs.Weights.{bit-is}
+use Rattle.nonzero.proofs.weigh_all.Statement.{statement}
+use Rattle.nonzero.proofs.weigh_all.Tie as tie
 
 abbrev Inv-loop : tie.InvT-loop
 Inv-loop zz f₀ i₀ f i = Filled 64 (λ (k : ℕ). flag (lane zz k) * 2 ^ (k % 8)) f i

@@ -1,12 +1,12 @@
--- `shuffles::nonzero_mask`.
+-- `nonzero::nonzero_mask`.
 use borrow.Author.Needs.{needs}
 use mathlib.Core.Path.{_≡_, refl, sym, subst}
 use Prim.Native.Nat.{_+_, _*_, _<_}
 use lib.ListN.{length}
-use Rattle.shuffles.specs.Shuffles.{Light}
-use Rattle.shuffles.proofs.Weights.{light, half-wide, halves-fit, from-0, from-32, by-halves}
-use Rattle.shuffles.proofs.nonzero_mask.Statement.{statement}
-use Rattle.shuffles.proofs.nonzero_mask.Tie as tie
+use Rattle.nonzero.specs.Mask.{Light}
+use Rattle.nonzero.proofs.Weights.{light, half-wide, halves-fit, from-0, from-32, by-halves}
+use Rattle.nonzero.proofs.nonzero_mask.Statement.{statement}
+use Rattle.nonzero.proofs.nonzero_mask.Tie as tie
 
 sized : (c : tie.Start) → length (c .args .zz) ≡ 64
 sized c = search needs

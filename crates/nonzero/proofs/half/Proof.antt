@@ -1,10 +1,10 @@
--- `shuffles::half`.
+-- `nonzero::half`.
 use mathlib.Core.Path.{refl}
 use Prim.Native.Nat.{_+_, _*_, _<_, _≤_}
 use native.Mathlib.Omega.{arith}
-use Rattle.shuffles.proofs.Weights.{eight-first, eight-later, place-fits, byte-fits, second-fits, third-fits, fourth-fits, put-together}
-use Rattle.shuffles.proofs.half.Statement.{statement}
-use Rattle.shuffles.proofs.half.Tie as tie
+use Rattle.nonzero.proofs.Weights.{eight-first, eight-later, place-fits, byte-fits, second-fits, third-fits, fourth-fits, put-together}
+use Rattle.nonzero.proofs.half.Statement.{statement}
+use Rattle.nonzero.proofs.half.Tie as tie
 
 to-8 : 8 ≤ 24
 to-8 = omega arith

@@ -1,8 +1,8 @@
--- `shuffles::eight`: no sum exceeds 255.
+-- `nonzero::eight`: no sum exceeds 255.
 use borrow.Author.Needs.{needs}
-use Rattle.shuffles.proofs.Weights.{SumsFit, sums-fit}
-use Rattle.shuffles.proofs.eight.Statement.{statement}
-use Rattle.shuffles.proofs.eight.Tie as tie
+use Rattle.nonzero.proofs.Weights.{SumsFit, sums-fit}
+use Rattle.nonzero.proofs.eight.Statement.{statement}
+use Rattle.nonzero.proofs.eight.Tie as tie
 
 all : (s : tie.Start) → SumsFit (s .args .f .now) (s .args .p)
 all s = sums-fit (s .args .f .now) (s .args .p) (s .pre .2) (s .pre .0) (s .pre .1)

@@ -2,9 +2,9 @@ use borrow.Author.Needs.{needs}
 use mathlib.Core.Path.{_∙_, ap}
 use Prim.Native.Nat.{ℕ, _+_, _-_}
 use native.Mathlib.Omega.{arith}
-use Rattle.shuffles.proofs.Places.{selector-lt, high-selects, high-keeps}
-use Rattle.shuffles.proofs.high_place.Statement.{statement}
-use Rattle.shuffles.proofs.high_place.Tie as tie
+use Rattle.shuffle_places.proofs.Places.{selector-lt, high-selects, high-keeps}
+use Rattle.shuffle_places.proofs.high_place.Statement.{statement}
+use Rattle.shuffle_places.proofs.high_place.Tie as tie
 
 add-result : tie.Need-add-result
 add-result c =
