@@ -1,6 +1,7 @@
-// Products of eight lanes, and pairs of them added (lanes.rs).
+// Products of eight lanes (lanes.rs); those added in pairs are passed on.
 ghost use mathlib.Core.Path.{_≡_};
-ghost use Rattle.lanes.specs.Lanes.{mm-mulhi-epi16, mm-mulhi-epu16, mm-mullo-epi16, mm-madd-epi16};
+ghost use Rattle.lanes.specs.Lanes.{mm-mulhi-epi16, mm-mulhi-epu16, mm-mullo-epi16};
+pub use lanes_madd::madd;
 
 // The high halves of the products.
 pub fn mulhi(a: [i16; 8], b: [i16; 8]) -> [i16; 8]
@@ -31,18 +32,6 @@ pub fn mullo(a: [i16; 8], b: [i16; 8]) -> [i16; 8]
     let mut r = [0i16; 8];
     for k in 0..8 {
         r[k] = scalar::mullo1(a[k], b[k]);
-    }
-    r
-}
-
-// The products of each pair of lanes, added; the sum wraps at 32 bits.
-pub fn madd(a: [i16; 8], b: [i16; 8]) -> [i32; 4]
-    ensures { λ r. ⌜ r ≡ mm-madd-epi16 a b ⌝ }
-{
-    let mut r = [0i32; 4];
-    for k in 0..4 {
-        let i = 2 * k;
-        r[k] = scalar::madd1(a[i], b[i], a[i + 1], b[i + 1]);
     }
     r
 }

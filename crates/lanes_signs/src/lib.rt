@@ -1,6 +1,8 @@
-// Signs, magnitudes, the lesser and the greater of eight lanes (lanes.rs).
+// Signs and magnitudes of eight lanes (lanes.rs); the lesser and the greater are passed on.
 ghost use mathlib.Core.Path.{_≡_};
-ghost use Rattle.lanes.specs.Lanes.{mm-sign-epi16, mm-min-epi16, mm-max-epi16, mm-abs-epi16};
+ghost use Rattle.lanes.specs.Lanes.{mm-sign-epi16, mm-abs-epi16};
+pub use lanes_order::max16;
+pub use lanes_order::min16;
 
 // a with the signs of b, 0 where b is 0.
 pub fn sign16(a: [i16; 8], b: [i16; 8]) -> [i16; 8]
@@ -9,28 +11,6 @@ pub fn sign16(a: [i16; 8], b: [i16; 8]) -> [i16; 8]
     let mut r = [0i16; 8];
     for k in 0..8 {
         r[k] = scalar::sign1(a[k], b[k]);
-    }
-    r
-}
-
-// The lesser of the two.
-pub fn min16(a: [i16; 8], b: [i16; 8]) -> [i16; 8]
-    ensures { λ r. ⌜ r ≡ mm-min-epi16 a b ⌝ }
-{
-    let mut r = [0i16; 8];
-    for k in 0..8 {
-        r[k] = scalar::min1(a[k], b[k]);
-    }
-    r
-}
-
-// The greater of the two.
-pub fn max16(a: [i16; 8], b: [i16; 8]) -> [i16; 8]
-    ensures { λ r. ⌜ r ≡ mm-max-epi16 a b ⌝ }
-{
-    let mut r = [0i16; 8];
-    for k in 0..8 {
-        r[k] = scalar::max1(a[k], b[k]);
     }
     r
 }

@@ -8,8 +8,8 @@ use Rattle.scalar.specs.Tab.{lane}
 use Rattle.scalar.proofs.Fill.{Filled, filled-next, filled-done}
 use Rattle.scalar.proofs.Laws.{lane4}
 use Rattle.lanes.specs.Lanes.{mm-madd-epi16}
-use Rattle.lanes_products.proofs.madd.Statement.{statement}
-use Rattle.lanes_products.proofs.madd.Tie as tie
+use Rattle.lanes_madd.proofs.madd.Statement.{statement}
+use Rattle.lanes_madd.proofs.madd.Tie as tie
 
 abbrev Inv-loop : tie.InvT-loop
 Inv-loop a b r₀ k₀ r k = Filled 4 (λ i. maddOf (lane a (2 * i)) (lane b (2 * i)) (lane a (2 * i + 1)) (lane b (2 * i + 1))) r k
