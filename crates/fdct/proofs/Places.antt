@@ -1,7 +1,9 @@
 -- Where the code's loops read and store: each turn's places, against those of the definitions.
 use mathlib.Core.Path.{_≡_, refl}
-use Prim.Native.Nat.{ℕ, _+_, _*_, _/_, _%_, _<_, _≤_}
+use Prim.Native.Nat.{ℕ, _+_, _-_, _*_, _/_, _%_, _<_, _≤_}
 use native.Mathlib.Omega.{arith}
+use mir.Syntax.{w64}
+use mir.Val.{Fits}
 use native.Mathlib.Nat.{mul-le-mul-right}
 use Rattle.scalar.proofs.InRows.{row-of, col-of}
 use Rattle.fcol.specs.declared.Lanes.{Lanes}
@@ -20,3 +22,25 @@ column-place L j r i h e =
     let a : i % 8 ≡ j = omega arith in
     let b : i / 8 ≡ r = omega arith in
     rw (a, b) refl
+
+-- what the loop over the columns asks of its places: they and their bytes are counted in 64 bits, and stand in the block
+pub first-bytes : (j : ℕ) → j < 8 → Fits w64 (j * 2)
+first-bytes j h = record { fits = omega arith }
+
+pub first-in : (j : ℕ) → j < 8 → j < 64
+first-in j h = omega arith
+
+pub place-fits : (j k : ℕ) → j < 8 → k ≤ 56 → Fits w64 (j + k)
+place-fits j k h i = record { fits = omega arith }
+
+pub place-bytes : (j k : ℕ) → j < 8 → k ≤ 56 → Fits w64 ((j + k) * 2)
+place-bytes j k h i = record { fits = omega arith }
+
+pub place-in : (j k : ℕ) → j < 8 → k ≤ 56 → j + k < 64
+place-in j k h i = omega arith
+
+pub next-fits : (j : ℕ) → j < 8 → Fits w64 (j + 1)
+next-fits j h = record { fits = omega arith }
+
+pub less : (j : ℕ) → j < 8 → 8 - (j + 1) < 8 - j
+less j h = omega arith

@@ -1,16 +1,16 @@
 -- `fdct::columns` fills a column a turn. Assumes nothing.
 use borrow.Author.Needs.{needs, sfits-of}
 use mathlib.Core.Path.{_≡_, refl, ap, _∙_}
-use Prim.Native.Nat.{_+_, _-_, _*_, _/_, _%_}
+use Prim.Native.Nat.{_+_, _-_, _<_}
 use native.Mathlib.Omega.{arith}
+use lib.Dec.{lit≤}
 use mir.Facts.{toZ-ofZ}
-use Prim.Native.Nat.{_<_}
 use Rattle.fcol.specs.Steps.{columnOf}
 use Rattle.fcol.specs.declared.Lanes.{Lanes}
 use Rattle.fcol.proofs.Step.{enter8}
 use Rattle.fdct.specs.Forward.{columnAt, columnsAt, columnsOf}
 use Rattle.fdct.proofs.Stripes.{Striped, striped-next, striped-done}
-use Rattle.fdct.proofs.Places.{column-place}
+use Rattle.fdct.proofs.Places.{column-place, first-bytes, first-in, place-fits, place-bytes, place-in, next-fits, less}
 use Rattle.fdct.proofs.columns.Statement.{statement}
 use Rattle.fdct.proofs.columns.Tie as tie
 
@@ -55,5 +55,59 @@ returns c =
     let l = c .before in
     striped-done (columnsAt (l .before .args .shift) (l .before .args .t1)) (l .loop .c) (l .loop .j) (omega arith) (l .loop .inv)
 
+-- the column of the turn
+turn : (c : tie.After-struct-told8 Inv-loop μ-loop) → c .before .before .before .before .before .before .before .before .before .before .before .before .before .before .before .before .before .before .loop .j < 8
+turn c = c .before .before .before .before .before .before .before .before .before .before .before .before .before .before .before .before .before .loop-test .taken
+
 pub columns-spec : {M : Type 1} → statement M
-columns-spec = tie.close (tie.spec Inv-loop μ-loop (λ c. (search needs, (refl, λ i p q. absurd (omega arith)))) (λ c. omega arith) (λ c. omega arith) (λ c. omega arith) (λ c. omega arith) (λ c. omega arith) (λ c. omega arith) (λ c. omega arith) (λ c. omega arith) (λ c. omega arith) (λ c. omega arith) (λ c. omega arith) (λ c. omega arith) (λ c. omega arith) (λ c. omega arith) (λ c. omega arith) (λ c. omega arith) (λ c. omega arith) (λ c. omega arith) (λ c. omega arith) (λ c. omega arith) (λ c. omega arith) (λ c. omega arith) (λ c. omega arith) (λ c κs. search needs) (λ c. omega (arith, c .before .before .before .before .before .before .before .before .before .before .before .before .before .before .before .before .before .loop-test .taken)) (λ c. omega (arith, c .before .before .before .before .before .before .before .before .before .before .before .before .before .before .before .before .before .loop-test .taken)) (λ c. omega (arith, c .before .before .before .before .before .before .before .before .before .before .before .before .before .before .before .before .before .loop-test .taken)) (λ c. omega (arith, c .before .before .before .before .before .before .before .before .before .before .before .before .before .before .before .before .before .loop-test .taken)) (λ c. omega (arith, c .before .before .before .before .before .before .before .before .before .before .before .before .before .before .before .before .before .loop-test .taken)) (λ c. omega (arith, c .before .before .before .before .before .before .before .before .before .before .before .before .before .before .before .before .before .loop-test .taken)) (λ c. omega (arith, c .before .before .before .before .before .before .before .before .before .before .before .before .before .before .before .before .before .loop-test .taken)) (λ c. omega (arith, c .before .before .before .before .before .before .before .before .before .before .before .before .before .before .before .before .before .loop-test .taken)) (λ c. omega (arith, c .before .before .before .before .before .before .before .before .before .before .before .before .before .before .before .before .before .loop-test .taken)) (λ c. omega (arith, c .before .before .before .before .before .before .before .before .before .before .before .before .before .before .before .before .before .loop-test .taken)) (λ c. omega (arith, c .before .before .before .before .before .before .before .before .before .before .before .before .before .before .before .before .before .loop-test .taken)) (λ c. omega (arith, c .before .before .before .before .before .before .before .before .before .before .before .before .before .before .before .before .before .loop-test .taken)) (λ c. omega (arith, c .before .before .before .before .before .before .before .before .before .before .before .before .before .before .before .before .before .loop-test .taken)) (λ c. omega (arith, c .before .before .before .before .before .before .before .before .before .before .before .before .before .before .before .before .before .loop-test .taken)) (λ c. omega (arith, c .before .before .before .before .before .before .before .before .before .before .before .before .before .before .before .before .before .loop-test .taken)) (λ c. omega (arith, c .before .before .before .before .before .before .before .before .before .before .before .before .before .before .before .before .before .loop-test .taken)) (λ c. omega (arith, c .before .before .before .before .before .before .before .before .before .before .before .before .before .before .before .before .before .loop-test .taken)) (λ c. omega (arith, c .before .before .before .before .before .before .before .before .before .before .before .before .before .before .before .before .before .loop-test .taken)) (λ c. omega (arith, c .before .before .before .before .before .before .before .before .before .before .before .before .before .before .before .before .before .loop-test .taken)) (λ c. omega (arith, c .before .before .before .before .before .before .before .before .before .before .before .before .before .before .before .before .before .loop-test .taken)) (λ c. omega (arith, c .before .before .before .before .before .before .before .before .before .before .before .before .before .before .before .before .before .loop-test .taken)) (λ c. omega (arith, c .before .before .before .before .before .before .before .before .before .before .before .before .before .before .before .before .before .loop-test .taken)) (λ c. omega (arith, c .before .before .before .before .before .before .before .before .before .before .before .before .before .before .before .before .before .loop-test .taken)) (λ c. omega (arith, c .before .before .before .before .before .before .before .before .before .before .before .before .before .before .before .before .before .loop-test .taken)) (λ c. omega (arith, c .before .before .before .before .before .before .before .before .before .before .before .before .before .before .before .before .before .loop-test .taken)) loop-again returns)
+columns-spec =
+    tie.close
+    (tie.spec Inv-loop μ-loop (λ c. (search needs, (refl, λ i p q. absurd (omega arith))))
+    (λ c. first-bytes _ (c .loop-test .taken))
+    (λ c. first-in _ (c .loop-test .taken))
+    (λ c. place-fits _ 8 (c .before .loop-test .taken) (lit≤ tt))
+    (λ c. place-bytes _ 8 (c .before .loop-test .taken) (lit≤ tt))
+    (λ c. place-in _ 8 (c .before .loop-test .taken) (lit≤ tt))
+    (λ c. place-fits _ 16 (c .before .before .loop-test .taken) (lit≤ tt))
+    (λ c. place-bytes _ 16 (c .before .before .loop-test .taken) (lit≤ tt))
+    (λ c. place-in _ 16 (c .before .before .loop-test .taken) (lit≤ tt))
+    (λ c. place-fits _ 24 (c .before .before .before .loop-test .taken) (lit≤ tt))
+    (λ c. place-bytes _ 24 (c .before .before .before .loop-test .taken) (lit≤ tt))
+    (λ c. place-in _ 24 (c .before .before .before .loop-test .taken) (lit≤ tt))
+    (λ c. place-fits _ 32 (c .before .before .before .before .loop-test .taken) (lit≤ tt))
+    (λ c. place-bytes _ 32 (c .before .before .before .before .loop-test .taken) (lit≤ tt))
+    (λ c. place-in _ 32 (c .before .before .before .before .loop-test .taken) (lit≤ tt))
+    (λ c. place-fits _ 40 (c .before .before .before .before .before .loop-test .taken) (lit≤ tt))
+    (λ c. place-bytes _ 40 (c .before .before .before .before .before .loop-test .taken) (lit≤ tt))
+    (λ c. place-in _ 40 (c .before .before .before .before .before .loop-test .taken) (lit≤ tt))
+    (λ c. place-fits _ 48 (c .before .before .before .before .before .before .loop-test .taken) (lit≤ tt))
+    (λ c. place-bytes _ 48 (c .before .before .before .before .before .before .loop-test .taken) (lit≤ tt))
+    (λ c. place-in _ 48 (c .before .before .before .before .before .before .loop-test .taken) (lit≤ tt))
+    (λ c. place-fits _ 56 (c .before .before .before .before .before .before .before .loop-test .taken) (lit≤ tt))
+    (λ c. place-bytes _ 56 (c .before .before .before .before .before .before .before .loop-test .taken) (lit≤ tt))
+    (λ c. place-in _ 56 (c .before .before .before .before .before .before .before .loop-test .taken) (lit≤ tt))
+    (λ c κs. search needs)
+    (λ c. first-bytes _ (turn c))
+    (λ c. first-in _ (turn c))
+    (λ c. place-fits _ 8 (turn c) (lit≤ tt))
+    (λ c. place-bytes _ 8 (turn c) (lit≤ tt))
+    (λ c. place-in _ 8 (turn c) (lit≤ tt))
+    (λ c. place-fits _ 16 (turn c) (lit≤ tt))
+    (λ c. place-bytes _ 16 (turn c) (lit≤ tt))
+    (λ c. place-in _ 16 (turn c) (lit≤ tt))
+    (λ c. place-fits _ 24 (turn c) (lit≤ tt))
+    (λ c. place-bytes _ 24 (turn c) (lit≤ tt))
+    (λ c. place-in _ 24 (turn c) (lit≤ tt))
+    (λ c. place-fits _ 32 (turn c) (lit≤ tt))
+    (λ c. place-bytes _ 32 (turn c) (lit≤ tt))
+    (λ c. place-in _ 32 (turn c) (lit≤ tt))
+    (λ c. place-fits _ 40 (turn c) (lit≤ tt))
+    (λ c. place-bytes _ 40 (turn c) (lit≤ tt))
+    (λ c. place-in _ 40 (turn c) (lit≤ tt))
+    (λ c. place-fits _ 48 (turn c) (lit≤ tt))
+    (λ c. place-bytes _ 48 (turn c) (lit≤ tt))
+    (λ c. place-in _ 48 (turn c) (lit≤ tt))
+    (λ c. place-fits _ 56 (turn c) (lit≤ tt))
+    (λ c. place-bytes _ 56 (turn c) (lit≤ tt))
+    (λ c. place-in _ 56 (turn c) (lit≤ tt))
+    (λ c. next-fits _ (turn c)) (λ c. less _ (turn c)) loop-again returns)
