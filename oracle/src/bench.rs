@@ -21,15 +21,23 @@ const ROUNDS: usize = 15;
 const TURNS: usize = 5;
 const ROW: Duration = Duration::from_millis(200);
 
-pub fn run() -> ExitCode {
+/// All parts, or those that are named.
+pub fn run(parts: &[&str]) -> ExitCode {
     println!("ns each, best of {ROUNDS} rounds or more of {TURNS} turns; ratio: ours over the column before it\n");
     println!("| | ours | SSE2 | ratio | portable | ratio |");
     println!("|---|---|---|---|---|---|");
-    symbols();
-    blocks();
-    calls::<u8>("8-bit");
-    calls::<u16>("10-bit");
-    frames();
+    let all: [(&str, fn()); 5] = [
+        ("symbols", symbols),
+        ("blocks", blocks),
+        ("8-bit", || calls::<u8>("8-bit")),
+        ("10-bit", || calls::<u16>("10-bit")),
+        ("frames", frames),
+    ];
+    for (name, part) in all {
+        if parts.is_empty() || parts.contains(&name) {
+            part();
+        }
+    }
     ExitCode::SUCCESS
 }
 

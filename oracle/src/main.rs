@@ -17,7 +17,7 @@ mod questions;
 #[cfg(published)]
 mod report;
 
-const USAGE: &str = "usage: oracle differential SECONDS SEED [LAYER..] | answers | bench | work WHO WHAT TIMES";
+const USAGE: &str = "usage: oracle differential SECONDS SEED [LAYER..] | answers | bench [PART..] | work WHO WHAT TIMES";
 
 #[cfg(published)]
 fn main() -> std::process::ExitCode {
@@ -29,7 +29,7 @@ fn main() -> std::process::ExitCode {
             _ => usage(),
         },
         ["answers"] => answers::run(),
-        ["bench"] => bench::run(),
+        ["bench", ref parts @ ..] => bench::run(parts),
         ["work", who, what, times] => match times.parse() {
             Ok(times) => bench::work(who, what, times),
             _ => usage(),

@@ -10,8 +10,6 @@ use Rattle.builder.specs.declared.Shift.the-variants as shift
 use Rattle.builder.specs.declared.Builder.{Builder}
 use Rattle.builder.specs.declared.HeaderAnswer.{HeaderAnswer}
 use Rattle.builder.specs.declared.HeaderAnswer.the-variants as header
-use Rattle.builder.specs.declared.StreamAnswer.{StreamAnswer}
-use Rattle.builder.specs.declared.StreamAnswer.the-variants as stream
 
 -- the shift that is written
 abbrev pub shiftSays : Shift → ℕ
@@ -29,11 +27,7 @@ builderSays b =
       at = b .at;
     }
 
--- with the buffer as the call leaves it. A refused call leaves it, and the state, as they came
+-- with the buffer as the call leaves it. A refused call leaves it as it came
 abbrev pub HeaderCall : HeaderAnswer → List ℕ → List ℕ → Answer Built → Type 0
 HeaderCall (header.Started b) out out' a = a ≡ accepted (record { state = builderSays b; bytes = out' })
 HeaderCall (header.Refused n) out out' a = (a ≡ refused n) × (out' ≡ out)
-
-abbrev pub StreamCall : Builder → StreamAnswer → List ℕ → List ℕ → Answer Built → Type 0
-StreamCall b (stream.Next b') out out' a = a ≡ accepted (record { state = builderSays b'; bytes = out' })
-StreamCall b (stream.Refused n b') out out' a = (a ≡ refused n) × (out' ≡ out) × (b' ≡ b)

@@ -4,12 +4,13 @@ use mathlib.Core.List.{List}
 use Prim.Native.Nat.{ℕ}
 use Rattle.ask.specs.Ask.{Answer, refused, accepted}
 use Rattle.builder.specs.Build.{Built}
-use Rattle.builder.specs.Views.{builderSays, HeaderCall, StreamCall}
+use Rattle.builder.specs.Views.{builderSays, HeaderCall}
+use Rattle.frameput.specs.Views.{StreamCall}
 use Rattle.builder.specs.declared.Builder.{Builder}
 use Rattle.builder.specs.declared.HeaderAnswer.{HeaderAnswer}
 use Rattle.builder.specs.declared.HeaderAnswer.the-variants as header
-use Rattle.builder.specs.declared.StreamAnswer.{StreamAnswer}
-use Rattle.builder.specs.declared.StreamAnswer.the-variants as stream
+use Rattle.frameput.specs.declared.StreamAnswer.{StreamAnswer}
+use Rattle.frameput.specs.declared.StreamAnswer.the-variants as stream
 
 pub header-refused : {r : HeaderAnswer} {n : ℕ} {out out' : List ℕ} {A : Answer Built} → header.Refused n ≡ r → HeaderCall r out out' A → (A ≡ refused n) × (out' ≡ out)
 header-refused {out} {out'} {A} e h = subst (λ (r : HeaderAnswer). HeaderCall r out out' A) (sym e) h

@@ -1,7 +1,7 @@
 // Answers of the calls on frames, handed out: the number is returned, the rest of the answer goes into the places that the
 // caller lends for it. A refusal leaves them as they were; a refused part has offset 0 and length 0.
 use builder::HeaderAnswer;
-use builder::StreamAnswer;
+use frameput::StreamAnswer;
 use layout::Kind;
 use layout::LayoutAnswer;
 use layout::RowAnswer;
@@ -18,7 +18,8 @@ ghost use Rattle.layout.specs.Views.{layoutSays, rowSays, isAc};
 ghost use Rattle.parser.specs.Views.{frameSays, viewSays};
 ghost use Rattle.tables.specs.Quality.{qualityPreset};
 ghost use Rattle.builder.specs.Build.{Built};
-ghost use Rattle.builder.specs.Views.{HeaderCall, StreamCall};
+ghost use Rattle.builder.specs.Views.{HeaderCall};
+ghost use Rattle.frameput.specs.Views.{StreamCall};
 ghost use Rattle.builder.specs.declared.Builder.{Builder};
 ghost use Rattle.shown.specs.Shown.{wasAccepted};
 ghost use Rattle.frame_outs.specs.Outs.{left, isOn, flagOf, isImageRow, rowLeft};

@@ -12,7 +12,7 @@ use Rattle.streams.specs.Streams.{byteAt, lengthAt, oneStream, streams}
 use Rattle.parser.specs.Frame.{View, partAt, nthStream}
 use Rattle.streams.proofs.Laws.{one-whole, turn}
 use Rattle.parser.proofs.Laws.{nth-yes}
-use Rattle.builder.specs.Build.{lengthWord, streamBytes, allStreams}
+use Rattle.frameput.specs.Put.{lengthWord, streamBytes, allStreams}
 use Rattle.frames.specs.Whole.{Within}
 use Rattle.frames.proofs.Put.{stream-length}
 

@@ -9,7 +9,8 @@ use lib.Seq.{length-take-le, take-append-seam, drop-at}
 use Rattle.ask.specs.Ask.{Answer, refused, accepted, andThen}
 use Rattle.bits.specs.Lay.{lay}
 use Rattle.parser.specs.Frame.{viewOf}
-use Rattle.builder.specs.Build.{Build, Built, headerLength, headerBytes, countByte, started, allStreams, writeOf}
+use Rattle.builder.specs.Build.{Build, Built, headerLength, headerBytes, countByte, started}
+use Rattle.frameput.specs.Put.{allStreams, writeOf}
 use Rattle.frames.specs.Whole.{buildOf, Complete, ofKind, streamAt, bytesOf, frameIn}
 use Rattle.frames.proofs.Put.{header-length, afterAll, all-at, builds, builds-dc}
 use Rattle.frames.proofs.Views.{none, a-slice, view-back}

@@ -15,7 +15,8 @@ use Rattle.parser.specs.Frame.{dcStreams, parseOf}
 use Rattle.layout.proofs.Laws.{sized, Sized}
 use Rattle.header.proofs.Laws.{all-yes}
 use Rattle.parser.proofs.Laws.{dc-only, ac-too}
-use Rattle.builder.specs.Build.{formatByte, headerBytes, countByte, streamBytes, allStreams, writeOf}
+use Rattle.builder.specs.Build.{formatByte, headerBytes, countByte}
+use Rattle.frameput.specs.Put.{streamBytes, allStreams, writeOf}
 use Rattle.frames.specs.Whole.{Within}
 use Rattle.frames.proofs.Put.{stream-length}
 use Rattle.frames.proofs.Back.{streams-read}

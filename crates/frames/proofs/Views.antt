@@ -13,7 +13,8 @@ use Rattle.streams.specs.Streams.{oneStream, streams}
 use Rattle.header.specs.Header.{FrameRead}
 use Rattle.parser.specs.Frame.{dcStreams, nthStream, parseOf, viewOf, wanted}
 use Rattle.parser.proofs.Laws.{ac-nth, view-yes, view-beyond, view-unwanted}
-use Rattle.builder.specs.Build.{headerBytes, countByte, streamBytes, allStreams, writeOf}
+use Rattle.builder.specs.Build.{headerBytes, countByte}
+use Rattle.frameput.specs.Put.{streamBytes, allStreams, writeOf}
 use Rattle.frames.specs.Whole.{Within, AllOrNone, Complete, ofKind, streamAt, bytesOf}
 use Rattle.frames.proofs.Put.{stream-length}
 use Rattle.frames.proofs.Back.{one-read, its-bytes}

@@ -11,7 +11,8 @@ ghost use Rattle.layout.specs.Geometry.{Geometry, layoutOf, interlaceCapable, i
 ghost use Rattle.header.specs.Header.{FrameRead};
 ghost use Rattle.parser.specs.Frame.{parseOf, View, viewOf};
 ghost use Rattle.tables.specs.Quality.{qualityPreset};
-ghost use Rattle.builder.specs.Build.{Built, headerOf, streamOf};
+ghost use Rattle.builder.specs.Build.{Built, headerOf};
+ghost use Rattle.frameput.specs.Put.{streamOf};
 ghost use Rattle.shown.specs.Shown.{timeOf};
 ghost use Rattle.frame_outs.specs.Outs.{left, isOn, flagOf, isImageRow, rowLeft};
 ghost use Rattle.vmx.specs.Frames.{stateOf, ShownAt, shownAt};
@@ -178,7 +179,7 @@ pub extern "C" fn vmx_frame_put(
         next: first,
         at: start,
     };
-    let r = builder::put_stream(b, kind, slice, stream, out);
+    let r = frameput::put_stream(b, kind, slice, stream, out);
     frame_outs::stream_out(r, ac_turn, next, at)
 }
 

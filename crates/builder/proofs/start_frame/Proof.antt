@@ -10,7 +10,7 @@ use Rattle.ask.specs.Ask.{accepted, firstNo}
 use Rattle.bits.specs.Lay.{lay}
 use Rattle.bits.proofs.LayLaw.{lay-length}
 use Rattle.layout.specs.Views.{isAc}
-use Rattle.builder.specs.Build.{Build, Built, headerLength, headerBytes, lengthWord, started, headerQuestions}
+use Rattle.builder.specs.Build.{Build, Built, headerLength, headerBytes, started, headerQuestions}
 use Rattle.builder.specs.Views.{builderSays, shiftSays}
 use Rattle.builder.proofs.Laws.{starts, Starts, starts-at, header-no, header-yes, frame-built}
 use Rattle.builder.proofs.start_frame.Statement.{statement}

@@ -1,7 +1,7 @@
 -- `frame_outs::stream_out`.
 use borrow.Author.Needs.{needs}
 use mathlib.Core.Path.{_≡_, refl, sym}
-use Rattle.builder.specs.declared.StreamAnswer.the-variants as stream
+use Rattle.frameput.specs.declared.StreamAnswer.the-variants as stream
 use Rattle.frame_outs.proofs.Laws.{stream-refused, stream-next}
 use Rattle.frame_outs.proofs.stream_out.Statement.{statement}
 use Rattle.frame_outs.proofs.stream_out.Tie as tie

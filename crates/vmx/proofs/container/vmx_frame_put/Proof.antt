@@ -3,7 +3,7 @@ use borrow.Author.Needs.{needs}
 use mathlib.Core.Path.{_≡_, ap}
 use mathlib.Core.Bool.{Bool}
 use Rattle.layout.specs.Views.{isAc}
-use Rattle.builder.specs.Build.{streamOf}
+use Rattle.frameput.specs.Put.{streamOf}
 use Rattle.builder.specs.declared.Builder.{Builder}
 use Rattle.frame_outs.specs.Outs.{isOn}
 use Rattle.vmx.specs.Frames.{stateOf}

@@ -1,4 +1,4 @@
--- `builder::fits_stream`.
+-- `frameput::fits_stream`.
 use borrow.Author.Needs.{needs}
 use borrow.Author.Tests.{lt-ltb, le-ltb, le-leb, lt-leb, eq-eqb, ne-eqb}
 use mathlib.Core.Path.{_≡_, refl, sym, _∙_, ap}
@@ -8,9 +8,9 @@ use native.Mathlib.Omega.{arith}
 use Prim.Native.Nat.{ℕ, _+_, _*_, _-_, _/_, _%_, _≤_, _<_}
 use lib.ListN.{length, take, drop, length-set}
 use lib.Dec.{leb}
-use Rattle.builder.proofs.Laws.{by-difference4}
-use Rattle.builder.proofs.fits_stream.Statement.{statement}
-use Rattle.builder.proofs.fits_stream.Tie as tie
+use Rattle.frameput.proofs.Laws.{by-difference4}
+use Rattle.frameput.proofs.fits_stream.Statement.{statement}
+use Rattle.frameput.proofs.fits_stream.Tie as tie
 
 returns : tie.Need-returns
 returns c = sym (lt-leb (c .before .args .at + (4 + c .before .args .n)) (c .before .args .len) (omega arith))

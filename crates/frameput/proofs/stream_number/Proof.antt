@@ -1,4 +1,4 @@
--- `builder::stream_number`: each return is the first "no".
+-- `frameput::stream_number`: each return is the first "no".
 use borrow.Author.Needs.{needs}
 use borrow.Author.Tests.{lt-ltb, le-ltb, le-leb, lt-leb, eq-eqb, ne-eqb}
 use mathlib.Core.Path.{_≡_, refl, sym, _∙_, ap}
@@ -9,10 +9,10 @@ use Prim.Native.Nat.{ℕ, _+_, _*_, _-_, _/_, _%_, _≤_, _<_}
 use lib.ListN.{length, take, drop, length-set}
 use lib.Dec.{leb}
 use Rattle.layout.specs.Views.{isAc}
 use Rattle.builder.specs.Views.{builderSays}
-use Rattle.builder.proofs.Laws.{stream-room, stream-long, stream-turn, stream-yes}
-use Rattle.builder.proofs.stream_number.Statement.{statement}
-use Rattle.builder.proofs.stream_number.Tie as tie
+use Rattle.frameput.proofs.Laws.{stream-room, stream-long, stream-turn, stream-yes}
+use Rattle.frameput.proofs.stream_number.Statement.{statement}
+use Rattle.frameput.proofs.stream_number.Tie as tie
 
 returns : tie.Need-returns
 returns c =

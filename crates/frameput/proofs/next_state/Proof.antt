@@ -1,4 +1,4 @@
--- `builder::next_state`.
+-- `frameput::next_state`.
 use borrow.Author.Needs.{needs}
 use borrow.Author.Tests.{lt-ltb, le-ltb, le-leb, lt-leb, eq-eqb, ne-eqb}
 use mathlib.Core.Path.{_≡_, refl, sym, _∙_, ap}
@@ -8,10 +8,10 @@ use native.Mathlib.Omega.{arith}
 use Prim.Native.Nat.{ℕ, _+_, _*_, _-_, _/_, _%_, _≤_, _<_}
 use lib.ListN.{length, take, drop, length-set}
 use lib.Dec.{leb}
 use Rattle.builder.specs.Views.{builderSays}
-use Rattle.builder.proofs.Laws.{after-ac, after-last, after-dc}
-use Rattle.builder.proofs.next_state.Statement.{statement}
-use Rattle.builder.proofs.next_state.Tie as tie
+use Rattle.frameput.proofs.Laws.{after-ac, after-last, after-dc}
+use Rattle.frameput.proofs.next_state.Statement.{statement}
+use Rattle.frameput.proofs.next_state.Tie as tie
 
 returns : tie.Need-returns
 returns c =

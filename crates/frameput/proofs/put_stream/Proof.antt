@@ -1,4 +1,4 @@
--- `builder::put_stream`.
+-- `frameput::put_stream`.
 use borrow.Author.Needs.{needs}
 use mathlib.Core.Path.{_≡_, refl, sym, _∙_, ap}
 use mathlib.Core.Bool.{true, false}
@@ -10,11 +10,11 @@ use Rattle.ask.specs.Ask.{accepted}
 use Rattle.bits.specs.Lay.{lay}
 use Rattle.bits.proofs.LayLaw.{lay-length}
 use Rattle.layout.specs.Views.{isAc}
-use Rattle.builder.specs.Build.{Build, Built, headerLength, headerBytes, lengthWord, started}
-use Rattle.builder.specs.Views.{builderSays, shiftSays}
-use Rattle.builder.proofs.Laws.{puts, Puts, stream-no, stream-done, word-then, stream-built}
-use Rattle.builder.proofs.put_stream.Statement.{statement}
-use Rattle.builder.proofs.put_stream.Tie as tie
+use Rattle.frameput.specs.Put.{lengthWord}
+use Rattle.builder.specs.Views.{builderSays}
+use Rattle.frameput.proofs.Laws.{puts, Puts, stream-no, stream-done, word-then, stream-built}
+use Rattle.frameput.proofs.put_stream.Statement.{statement}
+use Rattle.frameput.proofs.put_stream.Tie as tie
 
 returns : tie.Need-returns
 returns c =

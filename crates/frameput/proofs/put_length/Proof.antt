@@ -1,4 +1,4 @@
--- `builder::put_length`.
+-- `frameput::put_length`.
 use borrow.Author.Needs.{needs}
 use borrow.Author.Tests.{lt-ltb, le-ltb, le-leb, lt-leb, eq-eqb, ne-eqb}
 use mathlib.Core.Path.{_≡_, refl, sym, _∙_, ap}
@@ -8,9 +8,9 @@ use native.Mathlib.Omega.{arith}
 use Prim.Native.Nat.{ℕ, _+_, _*_, _-_, _/_, _%_, _≤_, _<_}
 use lib.ListN.{length, take, drop, length-set}
 use lib.Dec.{leb}
-use Rattle.builder.proofs.Laws.{lay4}
-use Rattle.builder.proofs.put_length.Statement.{statement}
-use Rattle.builder.proofs.put_length.Tie as tie
+use Rattle.lay.proofs.Laws.{lay4}
+use Rattle.frameput.proofs.put_length.Statement.{statement}
+use Rattle.frameput.proofs.put_length.Tie as tie
 
 slice-write-out-2 : tie.Need-slice-write-out-2
 slice-write-out-2 c = simp length-set (omega arith)

@@ -1,4 +1,4 @@
--- `builder::in_turn`.
+-- `frameput::in_turn`.
 use borrow.Author.Needs.{needs}
 use borrow.Author.Tests.{lt-ltb, le-ltb, le-leb, lt-leb, eq-eqb, ne-eqb}
 use mathlib.Core.Path.{_≡_, refl, sym, _∙_, ap}
@@ -8,8 +8,8 @@ use native.Mathlib.Omega.{arith}
 use Prim.Native.Nat.{ℕ, _+_, _*_, _-_, _/_, _%_, _≤_, _<_}
 use lib.ListN.{length, take, drop, length-set}
 use lib.Dec.{leb}
-use Rattle.builder.proofs.in_turn.Statement.{statement}
-use Rattle.builder.proofs.in_turn.Tie as tie
+use Rattle.frameput.proofs.in_turn.Statement.{statement}
+use Rattle.frameput.proofs.in_turn.Tie as tie
 
 returns : tie.Need-returns
 returns c =
