@@ -1,5 +1,4 @@
 -- `vmx::previews::vmx_preview`.
-use borrow.Author.Needs.{needs}
 use mathlib.Core.Path.{_∙_}
 use Rattle.vmx.proofs.previews.vmx_preview.Statement.{statement}
 use Rattle.vmx.proofs.previews.vmx_preview.Tie as tie
@@ -9,5 +8,12 @@ returns c =
     let v = c .before .before .before .before .before .before in
     c .preview-out .ensures _ _ ∙ v .preview .ensures
 
+-- the call changed no length
+upper-kept : tie.Need-same-length
+upper-kept c = c .before .before .before .before .before .before .preview .kept .1 .1 .1 .0
+
+lower-kept : tie.Need-same-length-2
+lower-kept c = c .before .before .before .before .before .before .preview .kept .1 .1 .1 .1 .0
+
 pub vmx-preview-spec : {M : Type 1} → statement M
-vmx-preview-spec = tie.close (tie.spec (λ c κs. search needs) (λ c κs. search needs) (λ c. search needs) (λ c. search needs) returns)
+vmx-preview-spec = tie.close (tie.spec (λ c κs. tt) (λ c κs. tt) upper-kept lower-kept returns)

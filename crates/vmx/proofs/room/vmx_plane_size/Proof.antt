@@ -1,5 +1,4 @@
 -- `vmx::room::vmx_plane_size`.
-use borrow.Author.Needs.{needs}
 use mathlib.Core.Path.{_∙_}
 use Rattle.vmx.proofs.room.vmx_plane_size.Statement.{statement}
 use Rattle.vmx.proofs.room.vmx_plane_size.Tie as tie
@@ -8,4 +7,4 @@ returns : tie.Need-returns
 returns c = c .size-out .ensures ∙ c .before .before .before .plane-size .ensures
 
 pub vmx-plane-size-spec : {M : Type 1} → statement M
-vmx-plane-size-spec = tie.close (tie.spec (λ c κs. search needs) (λ c κs. search needs) returns)
+vmx-plane-size-spec = tie.close (tie.spec (λ c κs. tt) (λ c κs. tt) returns)

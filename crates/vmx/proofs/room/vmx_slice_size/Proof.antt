@@ -1,5 +1,4 @@
 -- `vmx::room::vmx_slice_size`.
-use borrow.Author.Needs.{needs}
 use mathlib.Core.Path.{_∙_}
 use Rattle.vmx.proofs.room.vmx_slice_size.Statement.{statement}
 use Rattle.vmx.proofs.room.vmx_slice_size.Tie as tie
@@ -8,4 +7,4 @@ returns : tie.Need-returns
 returns c = c .size-out .ensures ∙ c .before .before .before .slice-size .ensures
 
 pub vmx-slice-size-spec : {M : Type 1} → statement M
-vmx-slice-size-spec = tie.close (tie.spec (λ c κs. search needs) (λ c κs. search needs) returns)
+vmx-slice-size-spec = tie.close (tie.spec (λ c κs. tt) (λ c κs. tt) returns)
