@@ -1,7 +1,9 @@
 -- Where reading a block's places ends. Document 01, 'Plane and slice'.
 use mathlib.Core.Path.{_≡_}
+use mathlib.Core.Bool.{not, cond}
 use mathlib.Core.List.{List}
 use Prim.Native.Nat.{ℕ, zero, suc, _+_, _^_, _≤_, _<_}
+use lib.Dec.{ltb}
 use Rattle.bits.specs.Bits.{bitAt}
 use Rattle.bitreader.specs.Cursor.{At}
 use Rattle.bitreader.specs.declared.AcCursor.{AcCursor}
@@ -13,6 +15,10 @@ use Rattle.acread.specs.declared.BlockEnd.the-variants as end
 abbrev pub spanOf : ℕ → ℕ → ℕ
 spanOf zero n = 1
 spanOf (suc h) n = n
+
+-- "flat (byte 1, else 0) when no AC symbol was read for it": r zeros still to come as the block begins
+abbrev pub flatByte : ℕ → ℕ
+flatByte r = cond (not (ltb r 64)) 1 0
 
 -- the end of the places read, without their coefficients
 pub data Ends : Type 0 where

@@ -2,7 +2,7 @@
 ghost use mathlib.Core.Path.{_≡_};
 ghost use Prim.Native.Nat.{ℕ, _+_, _^_, _<_};
 ghost use Rattle.bitreader.specs.Cursor.{At};
-ghost use Rattle.acread.specs.Block.{spanOf, BlockEnded};
+ghost use Rattle.acread.specs.Block.{spanOf, flatByte, BlockEnded};
 use bitreader::AcCursor;
 
 // Where a block's places end: the cursor behind the last code, and the zeros of its run that are still to come.
@@ -16,6 +16,13 @@ pub fn span(run: u64, num: u64) -> u64
     ensures { λ r. ⌜ r ≡ spanOf run num ⌝ }
 {
     if run == 0 { 1 } else { num }
+}
+
+// 1 for a block that the zeros still to come fill, else 0.
+pub fn flat(pending: u64) -> u8
+    ensures { λ r. ⌜ r ≡ flatByte pending ⌝ }
+{
+    if pending < 64 { 0 } else { 1 }
 }
 
 // Reads the symbols of one block, behind `pending` zeros, and keeps none of their values.

@@ -1,5 +1,2 @@
-pub mod Scan
-pub mod Symbols
-pub mod Going
 pub mod Split
 pub mod Good

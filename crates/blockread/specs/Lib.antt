@@ -1,2 +1,1 @@
 pub mod On
-pub mod Places

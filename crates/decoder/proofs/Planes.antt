@@ -18,7 +18,7 @@ use Rattle.asks.proofs.Passed.{ReadingLegal, reading-legal}
 use Rattle.judge.specs.Good.{buffers, positions}
 use Rattle.verdict.proofs.Laws.{Passed, passed, refused-is, accepted-is}
 use Rattle.verdict.proofs.Planes.{one-good}
-use Rattle.decplane.specs.Storing.{blocksGot, PlaneGood, PlaneStored}
+use Rattle.storeplane.specs.Storing.{blocksGot, PlaneGood, PlaneStored}
 
 module _ (depth : Depth) (preset shift place stride : ℕ) (rows dc : List ℕ) (d : ℕ) (ac : List ℕ) (a : ℕ) where
   abbrev numbered : ℕ → Type 0

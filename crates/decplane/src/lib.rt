@@ -1,10 +1,7 @@
-// The storing pass over a plane (decode_plane of slice.rs) whose streams were judged good: blocks left to right, upper eight rows first;
-// each block is read from both streams and painted at its corner.
-mod both;
-
+// The storing pass over a plane (decode_plane of slice.rs) whose streams were judged good, at each depth.
 ghost use Rattle.calls.specs.Arguments.{eight, ten};
 ghost use Rattle.encplane.specs.Coding.{settings, plane};
-ghost use Rattle.decplane.specs.Storing.{PlaneGood, PlaneStored};
+ghost use Rattle.storeplane.specs.Storing.{PlaneGood, PlaneStored};
 use planebits::Ends;
 
 // Stores an 8-bit plane, read from the DC stream from d on and the AC stream from a on.
@@ -23,7 +20,7 @@ pub fn plane8(
     ensures { λ r. ⌜ PlaneStored (settings eight preset shift) (plane place stride (now (rows .entry))) (now (dc .entry)) d (now (ac .entry)) a r (now (rows .exit)) ⌝ }
 {
     let mut none = [0u16; 1];
-    both::plane(
+    storeplane::plane(
         false,
         rows,
         &mut none,
@@ -54,7 +51,7 @@ pub fn plane10(
     ensures { λ r. ⌜ PlaneStored (settings ten preset shift) (plane place stride (now (rows .entry))) (now (dc .entry)) d (now (ac .entry)) a r (now (rows .exit)) ⌝ }
 {
     let mut none = [0u8; 1];
-    both::plane(
+    storeplane::plane(
         true,
         &mut none,
         rows,

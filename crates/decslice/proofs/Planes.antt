@@ -13,7 +13,7 @@ use Rattle.slice.specs.Calls.{PlanesRead, badPlanes, planesRead, planeThen, byP
 use Rattle.planebits.specs.declared.Ends.{Ends}
 use Rattle.blockread.specs.On.{goodPlane}
 use Rattle.judge.specs.Good.{goodPlanes, buffers, positions}
-use Rattle.decplane.specs.Storing.{blocksGot, PlaneGood, PlaneStored}
+use Rattle.storeplane.specs.Storing.{blocksGot, PlaneGood, PlaneStored}
 use Rattle.decslice.specs.SliceStoring.{RowsFit, AllFit}
 
 never : {A : Type 0} → false ≡ true → A

@@ -10,7 +10,7 @@ use Rattle.slice.specs.Plane.{reconstruct}
 use Rattle.slice.specs.Calls.{PlanesRead, badPlanes, planesRead, readPlanes, rowsMade, rowsOf}
 use Rattle.planebits.specs.declared.Ends.{Ends}
 use Rattle.judge.specs.Good.{buffers, positions}
-use Rattle.decplane.specs.Storing.{blocksGot, PlaneGood, PlaneStored}
+use Rattle.storeplane.specs.Storing.{blocksGot, PlaneGood, PlaneStored}
 use Rattle.decslice.specs.SliceStoring.{planesGot, SliceGood, SliceStored}
 use Rattle.decslice.proofs.Planes.{here, all, Going, plane-good, going-on, read-on, read-none}
 

@@ -13,10 +13,10 @@ use Rattle.bitscan.specs.Six.{noSixZeros}
 use Rattle.bitscan.proofs.Codes.{SymbolTo, DcTo, symbol-to, code-to, no-symbol, no-dc}
 use Rattle.calls.specs.ReadPlane.{Blocks, badBlocks, blocks, readBlocks, DcSteps, badSteps, dcSteps, readSteps}
 use Rattle.calls.specs.Grid.{blocksOf}
-use Rattle.preview.specs.Row.{dcEnd}
+use Rattle.dcread.specs.Steps.{dcEnd}
 use Rattle.preview.proofs.Ends.{StepsTo, steps-to}
-use Rattle.report.specs.Report.{acEnd}
-use Rattle.report.proofs.Ends.{BlocksTo, blocks-to}
+use Rattle.acthrough.specs.Through.{acEnd}
+use Rattle.acthrough.proofs.Ends.{BlocksTo, blocks-to}
 use Rattle.judge.specs.Good.{dcPlane, acPlane}
 
 abbrev pub AnswerTo : Type 0 → ℕ → ℕ → Answer ℕ → Type 0

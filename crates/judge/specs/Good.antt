@@ -8,8 +8,8 @@ use Rattle.calls.specs.Arguments.{Plane, PerStream, Buffers}
 use Rattle.calls.specs.ReadPlane.{readSteps, readBlocks}
 use Rattle.calls.specs.Grid.{blocksOf}
 use Rattle.slice.specs.Calls.{PlanesRead, badPlanes, planesRead}
-use Rattle.preview.specs.Row.{dcEnd}
-use Rattle.report.specs.Report.{acEnd}
+use Rattle.dcread.specs.Steps.{dcEnd}
+use Rattle.acthrough.specs.Through.{acEnd}
 
 -- no bad code in any of the planes read
 abbrev pub goodPlanes : PlanesRead → Bool

@@ -78,11 +78,11 @@ fn ac_good(
     let mut k = 0;
     while k < count {
         let stride = stride_at(k, stride0, stride1, stride2, stride3);
-        match report::through_ac(ac, at, stride / 8) {
-            report::PlaneEnd::At(e) => {
+        match acthrough::through_ac(ac, at, stride / 8) {
+            acthrough::PlaneEnd::At(e) => {
                 at = e;
             }
-            report::PlaneEnd::Refused(n) => return false,
+            acthrough::PlaneEnd::Refused(n) => return false,
         }
         k += 1;
     }
@@ -95,7 +95,7 @@ pub fn plane(dc: &[u8], d: usize, ac: &[u8], a: usize, columns: usize) -> bool
     ensures { λ r. ⌜ ((shift : ℕ) → r ≡ goodPlane (readPlane shift (2 * columns) (now (dc .entry)) (now (ac .entry)) d a)) ⌝ }
 {
     if preview::plane_good(dc, d, columns) {
-        return report::plane_good(ac, a, columns);
+        return acthrough::plane_good(ac, a, columns);
     }
     false
 }

@@ -1,3 +1,1 @@
-pub mod Corner
-pub mod Painting
 mod Joined

@@ -5,22 +5,7 @@ ghost use Prim.Native.Nat.{_+_, _*_, _≤_, _<_};
 ghost use lib.ListN.{length};
 ghost use Rattle.tables.specs.Divisor.{divisorsOf};
 ghost use Rattle.calls.specs.Arguments.{eight, ten};
-ghost use Rattle.calls.specs.Grid.{level};
 ghost use Rattle.painted.specs.Block.{natural, BlockPainted, BlockPainted10};
-
-// The level of an 8-bit plane, as the painters take it.
-pub fn level8(place: usize) -> i16
-    ensures { λ r. ⌜ r ≡ level eight place ⌝ }
-{
-    planes::level8(place) as i16
-}
-
-// The level of a 10-bit plane.
-pub fn level10(place: usize) -> i16
-    ensures { λ r. ⌜ r ≡ level ten place ⌝ }
-{
-    planes::level10(place) as i16
-}
 
 // Paints an 8-bit block: flat when no AC symbol was read for it, else by the inverse transform.
 pub fn paint8(

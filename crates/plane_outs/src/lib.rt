@@ -7,7 +7,7 @@ ghost use mathlib.Core.Path.{_≡_};
 ghost use mathlib.Core.List.{List};
 ghost use Prim.Native.Nat.{ℕ};
 ghost use Rattle.sizes.specs.Answers.{sizeSays};
-ghost use Rattle.preview.specs.Row.{previewSays};
+ghost use Rattle.preview.specs.Answer.{previewSays};
 ghost use Rattle.report.specs.Report.{reportSays};
 ghost use Rattle.plane_outs.specs.Planes.{codedAs, decodedAs, previewedAs, reportedAs, sizedAs};
 ghost use Rattle.encoder.specs.Answers.{answered as codedAnswered};
@@ -63,12 +63,12 @@ pub fn preview_out(answer: preview::PlaneEnd, dc_at: &mut usize) -> u32
 }
 
 // Of a block report: the position behind the plane's AC stream; a refusal leaves the place as it was.
-pub fn report_out(answer: report::PlaneEnd, ac_at: &mut usize) -> u32
+pub fn report_out(answer: acthrough::PlaneEnd, ac_at: &mut usize) -> u32
     ensures { λ r. ⌜ ((bytes : List ℕ) → reportedAs r (now («ac_at» .exit)) bytes ≡ reportSays (now («ac_at» .entry)) answer bytes) ⌝ }
 {
     match answer {
-        report::PlaneEnd::Refused(n) => n,
-        report::PlaneEnd::At(q) => {
+        acthrough::PlaneEnd::Refused(n) => n,
+        acthrough::PlaneEnd::At(q) => {
             *ac_at = q;
             0
         }

@@ -31,6 +31,20 @@ pub fn level10(place: usize) -> u16
     0
 }
 
+// The level of an 8-bit plane as a lane.
+pub fn lane8(place: usize) -> i16
+    ensures { λ r. ⌜ r ≡ level eight place ⌝ }
+{
+    level8(place) as i16
+}
+
+// The level of a 10-bit plane as a lane.
+pub fn lane10(place: usize) -> i16
+    ensures { λ r. ⌜ r ≡ level ten place ⌝ }
+{
+    level10(place) as i16
+}
+
 // Where the block in block row j and block column i has its corner.
 pub fn corner(stride: usize, j: usize, i: usize) -> usize
     requires { ⌜ (j < 2) × (stride ≤ 7680) × (i < 960) ⌝ }

@@ -14,7 +14,8 @@ use Rattle.calls.specs.ReadPlane.{DcSteps, badSteps, dcSteps, readSteps}
 use Rattle.calls.specs.Grid.{blocksOf}
 use Rattle.calls.specs.Questions.{strideOk, previewQuestions}
 use Rattle.calls.specs.Previews.{Previewed, previewBytes, previewedBy, preview}
-use Rattle.preview.specs.Row.{goodSteps, stepList, dcEnd, Stored}
+use Rattle.dcread.specs.Steps.{goodSteps, stepList, dcEnd}
+use Rattle.previewrow.specs.Row.{Stored}
 
 module _ (shift place stride : ℕ) (upper lower : List ℕ) (bytes at : ℕ) where
   abbrev F : ℕ

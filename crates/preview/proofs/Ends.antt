@@ -10,7 +10,7 @@ use Rattle.bits.specs.Read.{DcCode, badDc, zeroStep, step, readDc}
 use Rattle.bitscan.specs.Six.{noSixZeros}
 use Rattle.bitscan.proofs.Codes.{DcTo, no-dc}
 use Rattle.calls.specs.ReadPlane.{DcStep, keep, replace, DcSteps, badSteps, dcSteps, stepThen, byDcCode, readSteps}
-use Rattle.preview.specs.Row.{goodSteps}
+use Rattle.dcread.specs.Steps.{goodSteps}
 
 abbrev pub StepsTo : Type 0 → ℕ → ℕ → DcSteps → Type 0
 StepsTo B a b badSteps = B

@@ -1,6 +1,2 @@
-pub mod Steps
-pub mod Going
 pub mod Asked
-pub mod Signs
 pub mod Ends
-pub mod Rows

@@ -153,8 +153,8 @@ fn reported(b: &[u8], ac: &[u8], rows: &mut [u8]) -> bool {
     let d = position(b, 40);
     let a = position(b, 48);
     match report::block_report(size(b, 16), cut(rows, size(b, 32)), ac, a) {
-        report::PlaneEnd::Refused(x) => answered(b, x, d, a),
-        report::PlaneEnd::At(e) => answered(b, 0, d, e),
+        acthrough::PlaneEnd::Refused(x) => answered(b, x, d, a),
+        acthrough::PlaneEnd::At(e) => answered(b, 0, d, e),
     }
 }
 

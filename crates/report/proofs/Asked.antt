@@ -14,7 +14,7 @@ use Rattle.calls.specs.ReadPlane.{Blocks, badBlocks, blocks, readBlocks}
 use Rattle.calls.specs.Grid.{blocksOf}
 use Rattle.calls.specs.Questions.{strideOk, startOk, acLengthOk, reportQuestions}
 use Rattle.calls.specs.Previews.{Reported, reportedBy, blockReport}
-use Rattle.report.specs.Report.{reportsOf, acEnd}
+use Rattle.acthrough.specs.Through.{reportsOf, acEnd}
 
 module _ (stride : ℕ) (report : List ℕ) (bytes at : ℕ) where
   pub no-stride : strideOk stride ≡ false → 4 ≡ firstNo (reportQuestions stride report bytes at)

@@ -1,4 +1,1 @@
-pub mod Blocks
-pub mod Going
 pub mod Asked
-pub mod Ends

@@ -1,44 +1,9 @@
--- What reading a plane's AC stream finds, without the coefficients. Document 01, 'Plane and slice'.
-use mathlib.Core.Bool.{Bool, true, false, not, cond}
-use mathlib.Core.List.{List, [], map}
+-- What a block report answers. Document 01, 'Plane and slice'.
+use mathlib.Core.List.{List}
 use Prim.Native.Nat.{ℕ}
-use lib.Dec.{ltb}
-use Rattle.ask.specs.Ask.{Answer, refused, accepted}
-use Rattle.bits.specs.Bits.{bytesFor}
-use Rattle.calls.specs.ReadPlane.{Blocks, badBlocks, blocks}
-use Rattle.calls.specs.Questions.{badCode}
-use Rattle.calls.specs.Previews.{reportByte, Reported}
-use Rattle.acread.specs.Block.{Ends, badEnds, ends}
-use Rattle.report.specs.declared.PlaneEnd.{PlaneEnd}
-use Rattle.report.specs.declared.PlaneEnd.the-variants as plane
-
--- "flat (byte 1, else 0) when no AC symbol was read for it": r zeros still to come as the block begins
-abbrev pub flatByte : ℕ → ℕ
-flatByte r = cond (not (ltb r 64)) 1 0
-
--- where the blocks read end
-abbrev pub blockEnds : Blocks → Ends
-blockEnds badBlocks = badEnds
-blockEnds (blocks bs q r) = ends q r
-
--- no bad code
-abbrev pub goodEnds : Ends → Bool
-goodEnds badEnds = false
-goodEnds (ends q r) = true
-
--- the bytes of the blocks read
-abbrev pub reportsOf : Blocks → List ℕ
-reportsOf badBlocks = []
-reportsOf (blocks bs q r) = map reportByte bs
-
--- "hands back the AC position where the plane ended"; question 8
-abbrev pub acEnd : Blocks → Answer ℕ
-acEnd badBlocks = refused badCode
-acEnd (blocks bs q r) = accepted (bytesFor q)
-
-abbrev pub endSays : PlaneEnd → Answer ℕ
-endSays (plane.At q) = accepted q
-endSays (plane.Refused n) = refused n
+use Rattle.calls.specs.Previews.{Reported}
+use Rattle.acthrough.specs.declared.PlaneEnd.{PlaneEnd}
+use Rattle.acthrough.specs.declared.PlaneEnd.the-variants as plane
 
 -- number, position and report of an answer to a call that started at `at`: a refusal hands the start back
 abbrev pub reportSays : ℕ → PlaneEnd → List ℕ → Reported

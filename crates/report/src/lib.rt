@@ -3,7 +3,7 @@
 ghost use mathlib.Core.Path.{_≡_};
 ghost use mathlib.Core.Bool.{true};
 ghost use mathlib.Core.List.{List};
-ghost use Prim.Native.Nat.{ℕ, _*_, _/_, _^_, _≤_, _<_};
+ghost use Prim.Native.Nat.{ℕ, _*_, _≤_};
 ghost use lib.ListN.{length};
 ghost use Rattle.ask.specs.Ask.{accepted, firstNo};
 ghost use Rattle.bits.specs.Bits.{bitAt};
@@ -11,64 +11,10 @@ ghost use Rattle.bits.specs.Lay.{lay};
 ghost use Rattle.calls.specs.ReadPlane.{readBlocks};
 ghost use Rattle.calls.specs.Questions.{reportQuestions};
 ghost use Rattle.calls.specs.Previews.{blockReport};
-ghost use Rattle.report.specs.Report.{flatByte, blockEnds, goodEnds, reportsOf, acEnd, endSays, reportSays};
+ghost use Rattle.acthrough.specs.Through.{blockEnds, goodEnds, reportsOf, acEnd};
+ghost use Rattle.report.specs.Report.{reportSays};
 use acread::BlockEnd;
-
-// Where a plane ends: the byte behind its stream, or the number of a refusal.
-pub enum PlaneEnd {
-    At(usize),
-    Refused(u32),
-}
-
-// Reads a plane's AC stream through: two rows of blocks, left at the first bad code.
-pub fn through_ac(ac: &[u8], at: usize, columns: usize) -> PlaneEnd
-    requires { ⌜ (at < 2 ^ 31) × (columns ≤ 960) ⌝ }
-    ensures { λ r. ⌜ endSays r ≡ acEnd (readBlocks (2 * columns) (bitAt (now (ac .entry))) (8 * at) 0) ⌝ }
-{
-    let mut c = bitreader::cursor(ac, 8 * at);
-    let mut pending: u64 = 0;
-    let mut number: u32 = 0;
-    'rows: for j in 0usize..2 {
-        for k in 0..columns {
-            match acread::skip_block(ac, c, pending) {
-                BlockEnd::At(d, n) => {
-                    c = d;
-                    pending = n;
-                }
-                BlockEnd::Bad => {
-                    number = 8;
-                    break 'rows;
-                }
-            }
-        }
-    }
-    if number != 0 {
-        PlaneEnd::Refused(number)
-    } else {
-        PlaneEnd::At(bitreader::end_byte(c))
-    }
-}
-
-// 1 for a block that the zeros still to come fill, else 0.
-fn flat(pending: u64) -> u8
-    ensures { λ r. ⌜ r ≡ flatByte pending ⌝ }
-{
-    if pending < 64 { 0 } else { 1 }
-}
-
-// No bad code in a plane's AC stream, from the byte `at` on.
-pub fn plane_good(ac: &[u8], at: usize, columns: usize) -> bool
-    requires { ⌜ (at < 2 ^ 31) × (columns ≤ 960) ⌝ }
-    ensures { λ r. ⌜ r ≡ goodEnds (blockEnds (readBlocks (2 * columns) (bitAt (now (ac .entry))) (8 * at) 0)) ⌝ }
-{
-    if bitscan::no_six_zeros(ac, at) {
-        return true;
-    }
-    match through_ac(ac, at, columns) {
-        PlaneEnd::At(e) => true,
-        PlaneEnd::Refused(n) => false,
-    }
-}
+use acthrough::PlaneEnd;
 
 // Stores one byte a block, for n blocks of a stream that was judged good; the byte behind them.
 fn store_report(ac: &[u8], at: usize, n: usize, report: &mut [u8]) -> usize
@@ -79,7 +25,7 @@ fn store_report(ac: &[u8], at: usize, n: usize, report: &mut [u8]) -> usize
     let mut pending: u64 = 0;
     let mut i = 0;
     while i < n {
-        report[i] = flat(pending);
+        report[i] = acread::flat(pending);
         match acread::skip_block(ac, c, pending) {
             BlockEnd::At(d, m) => {
                 c = d;
@@ -120,7 +66,7 @@ pub fn block_report(stride: usize, report: &mut [u8], ac: &[u8], at: usize) -> P
         return PlaneEnd::Refused(x);
     }
     let columns = stride / 8;
-    if plane_good(ac, at, columns) {
+    if acthrough::plane_good(ac, at, columns) {
         return PlaneEnd::At(store_report(ac, at, 2 * columns, report));
     }
     PlaneEnd::Refused(8)

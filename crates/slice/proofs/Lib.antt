@@ -5,3 +5,5 @@ pub mod BlocksBack
 pub mod ReadList
 pub mod Demand3
 pub mod RowsOnly
+pub mod Corner
+pub mod Painting

@@ -2,3 +2,4 @@ pub mod Plane
 pub mod Calls
 pub mod CallLists
 pub mod Demand3
+pub mod FirstBlocks

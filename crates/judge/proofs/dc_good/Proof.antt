@@ -5,7 +5,7 @@ use Prim.Native.Nat.{_-_, _≤_}
 use native.Mathlib.Omega.{arith}
 use lib.ListN.{take}
 use borrow.Author.Needs.{needs}
-use Rattle.preview.specs.Row.{endSays}
+use Rattle.preview.specs.Answer.{endSays}
 use Rattle.preview.specs.declared.PlaneEnd.the-variants as plane
 use Rattle.judge.specs.Good.{dcPlane}
 use Rattle.judge.proofs.Clean.{dc-spans, dc-clean}

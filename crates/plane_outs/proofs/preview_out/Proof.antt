@@ -1,7 +1,7 @@
 -- `plane_outs::preview_out`.
 use borrow.Author.Needs.{needs}
 use mathlib.Core.Path.{_≡_, sym, ap}
-use Rattle.preview.specs.Row.{previewSays}
+use Rattle.preview.specs.Answer.{previewSays}
 use Rattle.preview.specs.declared.PlaneEnd.{PlaneEnd}
 use Rattle.preview.specs.declared.PlaneEnd.the-variants as plane
 use Rattle.plane_outs.proofs.preview_out.Statement.{statement}

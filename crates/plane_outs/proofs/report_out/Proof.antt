@@ -2,8 +2,8 @@
 use borrow.Author.Needs.{needs}
 use mathlib.Core.Path.{_≡_, sym, ap}
 use Rattle.report.specs.Report.{reportSays}
-use Rattle.report.specs.declared.PlaneEnd.{PlaneEnd}
-use Rattle.report.specs.declared.PlaneEnd.the-variants as plane
+use Rattle.acthrough.specs.declared.PlaneEnd.{PlaneEnd}
+use Rattle.acthrough.specs.declared.PlaneEnd.the-variants as plane
 use Rattle.plane_outs.proofs.report_out.Statement.{statement}
 use Rattle.plane_outs.proofs.report_out.Tie as tie
 

@@ -8,7 +8,7 @@ use Rattle.ask.specs.Ask.{firstNo}
 use Rattle.bits.specs.Bits.{bitAt}
 use Rattle.calls.specs.ReadPlane.{readBlocks}
 use Rattle.calls.specs.Questions.{reportQuestions}
-use Rattle.report.proofs.Blocks.{not-good}
+use Rattle.acthrough.proofs.Blocks.{not-good}
 use Rattle.report.proofs.Asked.{yes, answer-no, answer-bad, answer-end}
 use Rattle.report.proofs.block_report.Statement.{statement}
 use Rattle.report.proofs.block_report.Tie as tie

@@ -8,9 +8,9 @@ use Rattle.ask.specs.Ask.{accepted}
 use Rattle.bits.specs.Bits.{bitAt}
 use Rattle.bits.specs.Lay.{lay}
 use Rattle.calls.specs.ReadPlane.{readBlocks}
-use Rattle.report.specs.Report.{reportsOf}
-use Rattle.report.proofs.Blocks.{end-at}
-use Rattle.report.proofs.Going.{Going, going-start, going-left, going-next, going-over, stored, not-bad, stored-all}
+use Rattle.acthrough.specs.Through.{reportsOf}
+use Rattle.acthrough.proofs.Blocks.{end-at}
+use Rattle.acthrough.proofs.Going.{Going, going-start, going-left, going-next, going-over, stored, not-bad, stored-all}
 use Rattle.report.proofs.store_report.Statement.{statement}
 use Rattle.acread.specs.declared.BlockEnd.the-variants as block
 use Rattle.report.proofs.store_report.Tie as tie
