@@ -104,12 +104,11 @@ fn row(name: &str, items: usize, sides: &mut [&mut dyn FnMut()]) {
 fn symbols() {
     const N: usize = 100_000;
     let mut rng = Rng::new(7);
-    let kinds = vec![2u8; N];
     let runs: Vec<u32> = (0..N).map(|_| if rng.once_in(2) { 0 } else { rng.below(12) as u32 }).collect();
     let codes: Vec<u32> = (0..N).map(|_| 2 + (rng.next() as u32 & ((1 << rng.between(1, 6)) - 1))).collect();
     let mut out = vec![0u8; 8 * N];
     let mut ours = || {
-        black_box(ours::bits::write(&kinds, &runs, &codes, 0, black_box(&mut out)));
+        black_box(ours::bits::write_pairs(&runs, &codes, 0, black_box(&mut out)));
     };
     let mut rust = || {
         let mut w = Writer::with_room(8 * N);
@@ -121,7 +120,7 @@ fn symbols() {
     };
     row("symbol written (run and value)", N, &mut [&mut ours, &mut rust]);
 
-    let end = ours::bits::write(&kinds, &runs, &codes, 0, &mut out);
+    let end = ours::bits::write_pairs(&runs, &codes, 0, &mut out);
     let s = &out[..end];
     let count = ours::bits::read(s, 0, false, 2 * N).len();
     let room = RefCell::new(vec![0u64; 3 * count]);

@@ -1,46 +1,31 @@
 // The bit writer (crate bitacc).
-ghost use Rattle.probe.specs.Kept.{Going};
+ghost use Rattle.probe_pairs.specs.Kept.{Going, Fits};
 use bitacc::BitAcc;
 
 fn value(a: BitAcc, c: u32, out: &mut [u8]) -> BitAcc
-    requires { ⌜ Going a ⌝ }
+    requires { ⌜ Going a × Fits a (now out) ⌝ }
     ensures { λ r. ⌜ Going r ⌝ }
 {
-    let p = a.pos;
     if c == 0 {
-        return a;
-    }
-    if out.len() < 16 {
-        return a;
-    }
-    if out.len() - 16 < p {
         return a;
     }
     bitacc::put_value(a, c, out)
 }
 
 fn run(a: BitAcc, n: u32, out: &mut [u8]) -> BitAcc
-    requires { ⌜ Going a ⌝ }
+    requires { ⌜ Going a × Fits a (now out) ⌝ }
     ensures { λ r. ⌜ Going r ⌝ }
 {
-    let p = a.pos;
     if 2147483647 < n {
-        return a;
-    }
-    if out.len() < 16 {
-        return a;
-    }
-    if out.len() - 16 < p {
         return a;
     }
     bitacc::put_run(a, n, out)
 }
 
 fn run_value(a: BitAcc, n: u32, c: u32, out: &mut [u8]) -> BitAcc
-    requires { ⌜ Going a ⌝ }
+    requires { ⌜ Going a × Fits a (now out) ⌝ }
     ensures { λ r. ⌜ Going r ⌝ }
 {
-    let p = a.pos;
     if c == 0 {
         return a;
     }
@@ -50,12 +35,6 @@ fn run_value(a: BitAcc, n: u32, c: u32, out: &mut [u8]) -> BitAcc
     if 131071 < n {
         return a;
     }
-    if out.len() < 16 {
-        return a;
-    }
-    if out.len() - 16 < p {
-        return a;
-    }
     bitacc::put_run_value(a, n, c, out)
 }
 
@@ -63,6 +42,13 @@ fn one(a: BitAcc, kind: u8, n: u32, c: u32, out: &mut [u8]) -> BitAcc
     requires { ⌜ Going a ⌝ }
     ensures { λ r. ⌜ Going r ⌝ }
 {
+    let p = a.pos;
+    if out.len() < 16 {
+        return a;
+    }
+    if out.len() - 16 < p {
+        return a;
+    }
     match kind {
         0 => value(a, c, out),
         1 => run(a, n, out),

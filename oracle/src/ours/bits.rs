@@ -1,9 +1,18 @@
-//! Crates bitacc and bitreader, by crates/probe/src/of_bitacc.rt and of_bitreader.rt.
+//! Crates bitacc and bitreader, by crates/probe/src/of_bitacc.rt and of_bitreader.rt, and by crates/probe_pairs.
 
 extern "C" {
     fn probe_bitacc_write(
         kinds: *const u8,
         kn: usize,
+        runs: *const u32,
+        rn: usize,
+        codes: *const u32,
+        cn: usize,
+        at: usize,
+        out: *mut u8,
+        n: usize,
+    ) -> usize;
+    fn probe_pairs_write(
         runs: *const u32,
         rn: usize,
         codes: *const u32,
@@ -21,6 +30,13 @@ pub fn write(kinds: &[u8], runs: &[u32], codes: &[u32], at: usize, out: &mut [u8
     let n = kinds.len();
     unsafe {
         probe_bitacc_write(kinds.as_ptr(), n, runs.as_ptr(), n, codes.as_ptr(), n, at, out.as_mut_ptr(), out.len())
+    }
+}
+
+/// Runs with values in a row, in one loop as a block writes them; the end, 0 where there are not eight bytes for each.
+pub fn write_pairs(runs: &[u32], codes: &[u32], at: usize, out: &mut [u8]) -> usize {
+    unsafe {
+        probe_pairs_write(runs.as_ptr(), runs.len(), codes.as_ptr(), codes.len(), at, out.as_mut_ptr(), out.len())
     }
 }
 

@@ -3,7 +3,7 @@ use Prim.Native.Nat.{_-_, _≤_}
 use native.Mathlib.Omega.{arith}
 use borrow.Author.Needs.{needs}
 use lib.ListN.{length}
-use Rattle.probe.specs.Kept.{Going}
+use Rattle.probe_pairs.specs.Kept.{Going}
 use Rattle.probe.proofs.of_bitacc.probe_bitacc_write.Statement.{statement}
 use Rattle.probe.proofs.of_bitacc.probe_bitacc_write.Tie as tie
 
