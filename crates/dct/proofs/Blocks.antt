@@ -2,24 +2,71 @@
 use mathlib.Core.Path.{_≡_, refl, sym, ap, _∙_}
 use mathlib.Core.Bool.{Bool, true, false}
 use mathlib.Core.List.{List}
-use Prim.Native.Nat.{ℕ, _<_}
-use lib.IntN.{ℤ}
+use Prim.Native.Nat.{ℕ, _<_, _/_}
+use native.Mathlib.Omega.{arith}
+use lib.IntN.{ℤ, pos, negsuc}
+use Rattle.scalar.specs.Scalar.{addsOf, mulloOf, sraOf}
+use Rattle.scalar.proofs.Fill.{getD-tab, tab-ext}
 use Rattle.irow.specs.RowPass.{lane}
+use Rattle.irow.specs.Stages.{shiftedOf}
 use Rattle.paint.specs.Paint.{storeBlock, sampleAt}
+use Rattle.paint.specs.Samples.{sampleOf}
 use Rattle.paint.proofs.Pixels.{store-ext}
-use Rattle.quant.specs.Quantise.{dequantiseBy, dequantShift, dequantiseOf}
+use Rattle.tables.specs.Divisor.{divisor}
+use Rattle.quant.specs.Quantise.{coefficient, dequantised, dequantiseBy, dequantShift, dequantiseOf}
+use Rattle.icols.specs.Columns.{levelOf}
 use Rattle.idct.specs.Inverse.{inverseOf, samplesOf}
-use Rattle.idct.proofs.Bounds.{sample-at, sample-lt, sampleTop}
-use Rattle.dct.specs.Decode.{blockSample}
+use Rattle.idct.proofs.Bounds.{sample-at, sample-lt, sampleTop, level-law}
+use Rattle.dct.specs.Decode.{blockSample, numberSample}
 
-pub block-law : (ten : Bool) (stride preset : ℕ) (level : ℤ) (nat : List ℤ) (l : List ℕ) {a : List ℤ} {p : List ℕ} → a ≡ dequantiseBy (dequantShift ten) preset nat
-    → p ≡ samplesOf ten (inverseOf ten level a) → storeBlock stride (sampleAt p) l ≡ storeBlock stride (blockSample ten preset level nat) l
-unfolding blockSample
-block-law ten stride preset level nat l {a} {p} e f =
-    rw (f, e)
-    (store-ext stride (sampleAt (samplesOf ten (inverseOf ten level (dequantiseOf ten preset nat)))) (λ i. blockSample ten preset level nat i) l
-    (λ i h. sample-at ten (inverseOf ten level (dequantiseOf ten preset nat)) i h))
+-- ---- dequantising: the shift behind the products
+
+no-shift : (z : ℤ) → sraOf z 0 ≡ z
+unfolding sraOf
+no-shift (pos n) = ap pos (omega arith)
+no-shift (negsuc n) = ap negsuc (omega arith)
+
+shifted-law : (n preset : ℕ) (nat : List ℤ) → shiftedOf n (dequantiseBy 0 preset nat) ≡ dequantiseBy n preset nat
+unfolding shiftedOf dequantiseBy dequantised
+shifted-law n preset nat =
+    tab-ext 64
+    (λ i h.
+    ap (λ (z : ℤ). sraOf z n)
+    (getD-tab 64 (λ i. sraOf (mulloOf (coefficient nat i) (pos (divisor preset i))) 0) i (pos 0) h ∙ no-shift (mulloOf (coefficient nat i) (pos (divisor preset i)))))
+
+pub core-law : (ten : Bool) (preset : ℕ) (nat : List ℤ) {n : ℕ} {a r : List ℤ} → a ≡ dequantiseBy 0 preset nat → n ≡ dequantShift ten → r ≡ inverseOf ten (pos 0) (shiftedOf n a)
+    → r ≡ inverseOf ten (pos 0) (dequantiseOf ten preset nat)
+core-law ten preset nat ea en er = rw (er, en, ea, shifted-law (dequantShift ten) preset nat) refl
+
+-- ---- samples
+
+level-at : (level : ℤ) (v : List ℤ) (i : ℕ) → i < 64 → lane (levelOf level v) i ≡ addsOf (lane v i) level
+unfolding levelOf
+level-at level v i h = getD-tab 64 (λ i. addsOf (lane v i) level) i (pos 0) h
+
+-- the samples of a block's numbers
+pub store-law : (ten : Bool) (stride : ℕ) (level : ℤ) (v : List ℤ) (l : List ℕ) {p : List ℕ} → p ≡ samplesOf ten (levelOf level v)
+    → storeBlock stride (sampleAt p) l ≡ storeBlock stride (numberSample ten level v) l
+unfolding numberSample
+store-law ten stride level v l e =
+    rw e
+    (store-ext stride (sampleAt (samplesOf ten (levelOf level v))) (λ i. numberSample ten level v i) l
+    (λ i h. sample-at ten (levelOf level v) i h ∙ ap (sampleOf ten) (level-at level v i h)))
+
+-- the numbers' samples are the block's
+pub block-law : (ten : Bool) (stride preset : ℕ) (level : ℤ) (nat : List ℤ) (l : List ℕ) {v : List ℤ} → v ≡ inverseOf ten (pos 0) (dequantiseOf ten preset nat)
+    → storeBlock stride (numberSample ten level v) l ≡ storeBlock stride (blockSample ten preset level nat) l
+unfolding blockSample numberSample
+block-law ten stride preset level nat l {v} e =
+    store-ext stride (λ i. numberSample ten level v i) (λ i. blockSample ten preset level nat i) l
+    (λ i h.
+    ap (sampleOf ten)
+    (sym (level-at level v i h) ∙ ap (λ (w : List ℤ). lane w i) (ap (levelOf level) e ∙ level-law ten level (dequantiseOf ten preset nat))))
 
 pub block-sample-lt : (ten : Bool) (preset : ℕ) (level : ℤ) (nat : List ℤ) (i : ℕ) → blockSample ten preset level nat i < sampleTop ten
 unfolding blockSample
 block-sample-lt ten preset level nat i = sample-lt ten (lane (inverseOf ten level (dequantiseOf ten preset nat)) i)
+
+pub shift-small : (ten : Bool) → dequantShift ten < 16
+shift-small false = omega arith
+shift-small true = omega arith

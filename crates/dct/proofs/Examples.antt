@@ -12,7 +12,7 @@ use Rattle.icol.specs.Steps.{_▸_, oddOf, evenOf, sumOf, diffOf, joinOf, colum
 use Rattle.paint.specs.Samples.{flatSample}
 use Rattle.tables.specs.Divisor.{baseMatrix, qualityFactors, divisor}
 use Rattle.quant.specs.Quantise.{dequantised, dequantiseBy}
-use Rattle.idct.specs.Columns.{columnAt, columnsOf}
+use Rattle.icols.specs.Columns.{columnAt, columnsOf}
 use Rattle.idct.specs.Inverse.{inverseOf}
 use Rattle.dct.specs.Decode.{blockSample}
 

@@ -1,45 +1,50 @@
-// A block of coefficients becomes 8 by 8 samples in the rows from its corner on: dequantising, the inverse transform, the block writer.
-// The divisors are tables::decode_numbers(preset)'s: a caller makes them once for a plane.
-ghost use mathlib.Core.Bool.{true, false};
+// A block of coefficients becomes 8 by 8 samples in the rows from its corner on: dequantising and the inverse transform (idct_core of
+// dct.rs), then the block writer of a depth. The divisors are tables::decode_numbers(preset)'s: a caller makes them once for a plane.
+// idct_core does both depths: where it has one caller, as in reading, the compiler makes it part of it and no block goes through memory.
 ghost use mathlib.Core.Path.{_≡_};
+ghost use mathlib.Core.Bool.{true, false};
 ghost use Prim.Native.Nat.{_+_, _*_, _≤_, _<_};
+ghost use lib.IntN.{pos};
 ghost use lib.ListN.{length};
 ghost use Rattle.tables.specs.Divisor.{divisorsOf};
 ghost use Rattle.paint.specs.Paint.{storeBlock};
 ghost use Rattle.paint.specs.Samples.{flatSample};
-ghost use Rattle.dct.specs.Decode.{blockSample};
+ghost use Rattle.quant.specs.Quantise.{dequantShift, dequantiseOf};
+ghost use Rattle.idct.specs.Inverse.{inverseOf};
+ghost use Rattle.dct.specs.Decode.{numberSample};
 
-// The 8-bit samples of a block of coefficients in natural order.
-pub fn idct8(
-    rows: &mut [u8],
-    stride: usize,
-    nat: [i16; 64],
-    preset: usize,
-    d: &[u16; 64],
-    level: i16,
-)
-    requires { ⌜ (8 ≤ stride) × (stride ≤ 7680) × (7 * stride + 8 ≤ length (now rows)) × (preset < 25) × (now d ≡ divisorsOf preset) ⌝ }
-    ensures { λ _. ⌜ now (rows .exit) ≡ storeBlock stride (blockSample false preset level nat) (now (rows .entry)) ⌝ }
+// How far the products of a depth are shifted right.
+fn dequant_shift(ten: bool) -> u32
+    ensures { λ r. ⌜ r ≡ dequantShift ten ⌝ }
 {
-    let a = quant::dequant(nat, preset, d, 4);
-    let p = idct::inverse8(a, level);
+    if ten { 2 } else { 4 }
+}
+
+// The numbers of a block of coefficients in natural order: dequantised and transformed, the level not added.
+pub fn idct_core(nat: [i16; 64], preset: usize, d: &[u16; 64], ten: bool) -> [i16; 64]
+    requires { ⌜ (preset < 25) × (now d ≡ divisorsOf preset) ⌝ }
+    ensures { λ r. ⌜ r ≡ inverseOf ten (pos 0) (dequantiseOf ten preset nat) ⌝ }
+{
+    let a = quant::dequant(nat, preset, d, 0);
+    let n = dequant_shift(ten);
+    idct::inverse(a, n, ten)
+}
+
+// The 8-bit samples of a block's numbers.
+pub fn store8(rows: &mut [u8], stride: usize, v: [i16; 64], level: i16)
+    requires { ⌜ (8 ≤ stride) × (stride ≤ 7680) × (7 * stride + 8 ≤ length (now rows)) ⌝ }
+    ensures { λ _. ⌜ now (rows .exit) ≡ storeBlock stride (numberSample false level v) (now (rows .entry)) ⌝ }
+{
+    let p = idct::bytes(v, level);
     paint::store8(rows, stride, &p);
 }
 
-// The 10-bit samples of a block of coefficients in natural order.
-pub fn idct16(
-    rows: &mut [u16],
-    stride: usize,
-    nat: [i16; 64],
-    preset: usize,
-    d: &[u16; 64],
-    level: i16,
-)
-    requires { ⌜ (8 ≤ stride) × (stride ≤ 7680) × (7 * stride + 8 ≤ length (now rows)) × (preset < 25) × (now d ≡ divisorsOf preset) ⌝ }
-    ensures { λ _. ⌜ now (rows .exit) ≡ storeBlock stride (blockSample true preset level nat) (now (rows .entry)) ⌝ }
+// The 10-bit samples of a block's numbers.
+pub fn store16(rows: &mut [u16], stride: usize, v: [i16; 64], level: i16)
+    requires { ⌜ (8 ≤ stride) × (stride ≤ 7680) × (7 * stride + 8 ≤ length (now rows)) ⌝ }
+    ensures { λ _. ⌜ now (rows .exit) ≡ storeBlock stride (numberSample true level v) (now (rows .entry)) ⌝ }
 {
-    let a = quant::dequant(nat, preset, d, 2);
-    let p = idct::inverse16(a, level);
+    let p = idct::words(v, level);
     paint::store16(rows, stride, &p);
 }
 

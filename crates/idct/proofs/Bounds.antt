@@ -1,5 +1,5 @@
 -- Sizes: of the block's numbers and samples, and that a sample fits its type.
-use mathlib.Core.Path.{_≡_, refl, ap, _∙_}
+use mathlib.Core.Path.{_≡_, refl, sym, ap, _∙_}
 use mathlib.Core.Bool.{Bool, true, false}
 use mathlib.Core.List.{List}
 use Prim.Native.Nat.{ℕ, zero, suc, min, _+_, _*_, _/_, _%_, _<_, _≤_}
@@ -9,18 +9,22 @@ use lib.IntN.{ℤ, pos, negsuc, natAbs}
 use lib.ListN.{length}
 use lib.Signed.{ltZ, nonNeg}
 use borrow.Author.Tests.{ltb-true, ltb-false, le-ltb}
-use mir.Syntax.{w16}
-use mir.Val.{Fits}
-use Rattle.scalar.specs.Scalar.{packusOf, maxOf}
+use mir.Syntax.{w16, w32}
+use mir.Val.{Fits, sel}
+use Rattle.scalar.specs.Scalar.{addsOf, packusOf, minOf, maxOf}
 use Rattle.scalar.specs.Tab.{tab}
-use Rattle.scalar.proofs.Fill.{length-tab, getD-tab}
+use Rattle.scalar.proofs.Laws.{back}
+use Rattle.scalar.proofs.Fill.{length-tab, getD-tab, tab-ext}
 use Rattle.irow.specs.RowPass.{lane, rowsOf}
-use Rattle.irow.specs.Stages.{pairUpOf, pairedRows, inverseTab}
-use Rattle.irow.proofs.Pass.{rows-law}
+use Rattle.irow.specs.Stages.{pairUpOf, shiftedOf, mirrorOf, pairedRows, inverseTab}
+use Rattle.irow.proofs.Pass.{rows-law, shift-law}
 use Rattle.paint.specs.Samples.{tenOf, sampleOf, flatSample}
 use Rattle.paint.specs.Paint.{sampleAt}
-use Rattle.idct.specs.Columns.{eightAt, columnAt, columnsOf}
-use Rattle.idct.specs.Inverse.{rowRound, rowShift, colRound, colCorr, colShift, inverseOf, samplesOf}
+use Rattle.icols.specs.Columns.{eightAt, columnAt, columnsOf, levelOf}
+use Rattle.icols.proofs.Mirror.{columns-mirror}
+use Rattle.icols.proofs.Level.{columns-level}
+use Rattle.idct.specs.Inverse.{rowRound, rowShift, colRound, colCorr, colShift, roundingsOf, inverseOf, samplesOf}
+use Rattle.idct.specs.declared.Roundings.{Roundings}
 
 pub length-columns : (round corr : ℤ) (shift : ℕ) (level : ℤ) (w : List ℤ) → length (columnsOf round corr shift level w) ≡ 64
 unfolding columnsOf
@@ -55,35 +59,35 @@ pub flat-lt : (level dc : ℤ) → flatSample level dc < 256
 unfolding flatSample
 flat-lt level dc = sample-lt false _
 
--- the 10-bit sample, by the two tests
-pub ten-low : (z : ℤ) → ltZ z (pos 0) ≡ true → 0 ≡ tenOf z
-unfolding tenOf
-ten-low (pos n) e = absurd (omega (arith, ltb-true n 0 e))
-ten-low (negsuc n) e = refl
+-- the 10-bit sample of a clamped number
+abbrev pub clamped : ℤ → ℤ
+clamped z = maxOf (minOf z (pos 1023)) (pos 0)
 
-pub ten-high : (z : ℤ) → ltZ (pos 1023) z ≡ true → 65472 ≡ tenOf z
-unfolding tenOf
-ten-high (pos n) e = omega (arith, ltb-true 1023 n e)
-ten-high (negsuc n) e = cc
+abbrev pub least : ℤ → ℕ
+least (pos n) = min n 1023
+least (negsuc n) = 0
 
-pub ten-mid : (z : ℤ) → ltZ z (pos 0) ≡ false → ltZ (pos 1023) z ≡ false → natAbs z * 64 ≡ tenOf z
-unfolding tenOf
-ten-mid (pos n) e f = omega (arith, ltb-false 1023 n f)
-ten-mid (negsuc n) e f = cc
-
-pub ten-fits : (z : ℤ) → ltZ z (pos 0) ≡ false → ltZ (pos 1023) z ≡ false → T (nonNeg z) × Fits w16 (natAbs z)
-ten-fits (pos n) e f = (tt, record { fits = omega (arith, ltb-false 1023 n f) })
-ten-fits (negsuc n) e f = let o : _≡_ {A = ℕ} 0 1 = cc in absurd (omega arith)
-
-pub ten-small : (z : ℤ) → ltZ z (pos 0) ≡ false → ltZ (pos 1023) z ≡ false → natAbs z ≤ 1023
-ten-small (pos n) e f = omega (arith, ltb-false 1023 n f)
-ten-small (negsuc n) e f = let o : _≡_ {A = ℕ} 0 1 = cc in absurd (omega arith)
-
-pub ten-mul : (z : ℤ) → ltZ z (pos 0) ≡ false → ltZ (pos 1023) z ≡ false → Fits w16 (natAbs z * 64)
-ten-mul z e f = record { fits = small (natAbs z) (ten-small z e f) }
+pub clamp-is : (z : ℤ) → clamped z ≡ pos (least z)
+unfolding maxOf minOf
+clamp-is (pos n) = go (ltb n 1023) refl
   where
-    small : (n : ℕ) → n ≤ 1023 → n * 64 < 65536
-    small n h = omega arith
+    go : (t : Bool) → ltb n 1023 ≡ t → maxOf (sel t (pos n) (pos 1023)) (pos 0) ≡ pos (min n 1023)
+    go true e =
+        let h : n < 1023 = ltb-true n 1023 e in
+        rw (le-ltb n 0 (omega arith)) (ap pos (omega arith))
+    go false e =
+        let h : 1023 ≤ n = ltb-false n 1023 e in
+        ap pos (omega arith)
+clamp-is (negsuc n) = refl
+
+pub least-small : (z : ℤ) → least z ≤ 1023
+least-small (pos n) = omega arith
+least-small (negsuc n) = omega arith
+
+pub least-ten : (z : ℤ) → least z * 64 ≡ tenOf z
+unfolding tenOf
+least-ten (pos n) = refl
+least-ten (negsuc n) = refl
 
 -- a sample of 8 bits is that of the number with 0 for what is below 0
 pub from-zero : (x : ℤ) → packusOf (maxOf x (pos 0)) ≡ packusOf x
@@ -93,8 +97,38 @@ from-zero (pos n) =
     rw e refl
 from-zero (negsuc n) = refl
 
--- the passes in order
-pub whole : (ten : Bool) (level : ℤ) (a : List ℤ) {b w v : List ℤ} {p : List ℕ} → b ≡ pairUpOf a → w ≡ pairedRows (rowRound ten) (rowShift ten) b inverseTab
-    → v ≡ columnsOf (colRound ten) (colCorr ten) (colShift ten) level w → p ≡ samplesOf ten v → p ≡ samplesOf ten (inverseOf ten level a)
+-- the samples of numbers whose level was still to be added
+pub level-samples : (ten : Bool) (level : ℤ) (v : List ℤ) → tab 64 (λ i. sampleOf ten (addsOf (lane v i) level)) ≡ samplesOf ten (levelOf level v)
+unfolding samplesOf levelOf
+level-samples ten level v = tab-ext 64 (λ i h. ap (sampleOf ten) (sym (getD-tab 64 (λ i. addsOf (lane v i) level) i (pos 0) h)))
+
+pub level-law : (ten : Bool) (level : ℤ) (a : List ℤ) → levelOf level (inverseOf ten (pos 0) a) ≡ inverseOf ten level a
 unfolding inverseOf
-whole ten level a eb e f g = rw (g, f, e, eb, rows-law (rowRound ten) (rowShift ten) a) refl
+level-law ten level a = columns-level (colRound ten) (colCorr ten) (colShift ten) level (rowsOf (rowRound ten) (rowShift ten) a)
+
+-- the roundings as a call hands them on: each read back from its bits
+of-rows : (ten : Bool) (k : Roundings) (l t : List ℤ) → k ≡ roundingsOf ten → pairedRows (back w32 (k .«row_round»)) (k .«row_shift») l t ≡ pairedRows (rowRound ten) (rowShift ten) l t
+of-rows false k l t e = rw e refl
+of-rows true k l t e = rw e refl
+
+of-columns : (ten : Bool) (k : Roundings) (level : ℤ) (l : List ℤ) → k ≡ roundingsOf ten
+    → columnsOf (back w16 (k .round)) (back w16 (k .corr)) (k .shift) level l ≡ columnsOf (colRound ten) (colCorr ten) (colShift ten) level l
+of-columns false k level l e = rw e refl
+of-columns true k level l e = rw e refl
+
+-- the passes in order
+pub whole : (ten : Bool) (n : ℕ) (a : List ℤ) (k : Roundings) {b w v r : List ℤ} → k ≡ roundingsOf ten → b ≡ pairUpOf a
+    → w ≡ pairedRows (back w32 (k .«row_round»)) (k .«row_shift») (shiftedOf n b) inverseTab → v ≡ columnsOf (back w16 (k .round)) (back w16 (k .corr)) (k .shift) (pos 0) w → r ≡ mirrorOf v
+    → r ≡ inverseOf ten (pos 0) (shiftedOf n a)
+unfolding inverseOf
+whole ten n a k {b} {w} ek eb ew ev er =
+    rw (er, ev, of-columns ten k (pos 0) w ek, ew, of-rows ten k (shiftedOf n b) inverseTab ek, eb, shift-law n a, rows-law (rowRound ten) (rowShift ten) (shiftedOf n a))
+    (columns-mirror (colRound ten) (colCorr ten) (colShift ten) (pos 0) (rowsOf (rowRound ten) (rowShift ten) (shiftedOf n a)))
+
+pub row-small : (ten : Bool) → rowShift ten < 32
+row-small false = omega arith
+row-small true = omega arith
+
+pub col-small : (ten : Bool) → colShift ten < 16
+col-small false = omega arith
+col-small true = omega arith

@@ -8,7 +8,7 @@ use Rattle.scalar.specs.Scalar.{sat16, wrap16, wrap32, addsOf, subsOf, mulhiOf,
 use Rattle.scalar.specs.Tab.{tabFrom}
 use Rattle.irow.specs.RowPass.{tab04, tab17, tab26, tab35, rowLane, rowsOf}
 use Rattle.icol.specs.Steps.{_▸_, oddOf, evenOf, sumOf, diffOf, joinOf, columnOf}
-use Rattle.idct.specs.Columns.{columnAt, columnsOf}
+use Rattle.icols.specs.Columns.{columnAt, columnsOf}
 use Rattle.idct.specs.Inverse.{inverseOf}
 
 wide : List ℤ

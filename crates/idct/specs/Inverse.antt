@@ -6,7 +6,8 @@ use lib.IntN.{ℤ, pos}
 use Rattle.scalar.specs.Tab.{tab}
 use Rattle.irow.specs.RowPass.{lane, rowsOf}
 use Rattle.paint.specs.Samples.{sampleOf}
-use Rattle.idct.specs.Columns.{columnsOf}
+use Rattle.icols.specs.Columns.{columnsOf}
+use Rattle.idct.specs.declared.Roundings.{Roundings}
 
 abbrev pub rowRound : Bool → ℤ
 rowRound false = pos 1024
@@ -28,6 +29,10 @@ colCorr true = pos 15
 abbrev pub colShift : Bool → ℕ
 colShift false = 6
 colShift true = 5
+
+-- all of a depth, as the code has them
+abbrev pub roundingsOf : Bool → Roundings
+roundingsOf ten = record { «row_round» = rowRound ten; «row_shift» = rowShift ten; round = colRound ten; corr = colCorr ten; shift = colShift ten }
 
 -- 64 dequantised coefficients in natural order become 64 numbers, level added, not clamped
 unfoldable pub inverseOf : Bool → ℤ → List ℤ → List ℤ

@@ -1,123 +1,196 @@
--- The stages of the code make the row pass.
-use mathlib.Core.Path.{_≡_, refl, sym, ap, _∙_}
-use mathlib.Core.Bool.{Bool, true, false}
+-- The stages of the code make the row pass, each row's right half mirrored.
+use mathlib.Core.Path.{_≡_, refl, sym, ap, ap₂, _∙_}
+use mathlib.Core.Bool.{Bool, true, false, cond}
+use mathlib.Core.Logic.{_⊎_, inl, inr, ⊎-elim}
 use mathlib.Core.List.{List}
-use Prim.Native.Nat.{ℕ, _+_, _-_, _*_, _/_, _%_, _<_, _≤_}
+use Prim.Native.Nat.{ℕ, zero, suc, _+_, _-_, _*_, _/_, _%_, _<_, _≤_}
 use native.Mathlib.Omega.{arith}
 use lib.Dec.{ltb}
-use lib.IntN.{ℤ, pos, _+ℤ_, _-ℤ_, _*ℤ_}
-use borrow.Author.Tests.{ltb-true, ltb-false}
-use Rattle.scalar.specs.Scalar.{sat16, wrap32, sraOf, maddOf, add32Of, sub32Of}
-use Rattle.scalar.specs.Tab.{tab}
+use lib.IntN.{ℤ, pos, _+ℤ_, _-ℤ_, _*ℤ_, +ℤ-comm}
 use lib.ListN.{length}
+use borrow.Author.Tests.{ltb-true, ltb-false, lt-ltb, le-ltb}
+use Rattle.scalar.specs.Scalar.{wrap32, sraOf, maddOf}
+use Rattle.scalar.specs.Tab.{tab}
 use Rattle.scalar.proofs.Fill.{length-tab, getD-tab, tab-ext}
+use Rattle.scalar.proofs.InRows.{row-of, col-of}
+use Rattle.irow_pairs.specs.Pairs.{spreadPlace, spreadOf, pairsOf, evensOf, oddsOf}
+use Rattle.irow_pairs.specs.declared.Two.{Two}
+use Rattle.irow_sums.specs.Sums.{laneOf, halfOf, sideOf, rowsFrom}
+use Rattle.irow_sums.proofs.Sums.{left-is, right-is, half-at}
 use Rattle.irow.specs.RowPass.{lane, rowTab, pairSum, evenSum, oddSum, rounded, pickZ, rowLane, rowsOf}
-use Rattle.irow.specs.Stages.{pairPlace, pairUpOf, spreadOf, pairsOf, inverseTab, evenOf, sumLane, diffLane, byFour, foldOf, pairedRows}
-use Rattle.irow.proofs.Place.{place, plus-zero₂}
-use Rattle.irow.proofs.Wrap.{wrap-sum, wrap-diff}
+use Rattle.irow.specs.Stages.{pairPlace, pairUpOf, shiftedOf, groupOf, inverseTab, mirrorPlace, mirrorOf, pairedRows}
+use Rattle.irow.proofs.Place.{pair-lt}
 
-up-at : (a : List ℤ) (r k n : ℕ) → r < 8 → k < 8 → n ≡ 8 * r + k → lane (pairUpOf a) n ≡ lane a (8 * r + pairPlace k)
+-- ---- the factors
+
+up-at : (a : List ℤ) (r k : ℕ) → r < 8 → k < 8 → lane (pairUpOf a) (8 * r + k) ≡ lane a (8 * r + pairPlace k)
 unfolding pairUpOf
-up-at a r k n hr hk e = getD-tab 64 (λ i. lane a (8 * (i / 8) + pairPlace (i % 8))) n (pos 0) (omega arith) ∙ sym (place (λ r k. lane a (8 * r + pairPlace k)) r k n hk e)
+up-at a r k hr hk =
+    getD-tab 64 (λ i. lane a (8 * (i / 8) + pairPlace (i % 8))) (8 * r + k) (pos 0) (omega arith) ∙ rw (row-of r k hk, col-of r k hk) refl
 
-spread-at : (p : List ℤ) (from r b n : ℕ) → n < 64 → n / 8 ≡ r → n % 8 % 2 ≡ b → lane (spreadOf p from) n ≡ lane p (8 * r + (from + b))
+-- number p of row r, spread from `from` on
+spread-at : (b : List ℤ) (from r p : ℕ) → r < 8 → p < 8 → lane (spreadOf b from) (8 * r + p) ≡ lane b (8 * r + spreadPlace from p)
 unfolding spreadOf
-spread-at p from r b n h e f = getD-tab 64 (λ i. lane p (8 * (i / 8) + (from + i % 8 % 2))) n (pos 0) h ∙ rw (e, f) refl
+spread-at b from r p hr hp =
+    getD-tab 64 (λ i. lane b (8 * (i / 8) + spreadPlace from (i % 8))) (8 * r + p) (pos 0) (omega arith) ∙ rw (row-of r p hp, col-of r p hp) refl
 
-tab-at : (g r q n : ℕ) → g < 4 → r < 8 → q < 8 → n ≡ 64 * g + (8 * r + q) → lane inverseTab n ≡ lane (rowTab r) (8 * g + q)
+tab-at : (s r q : ℕ) → s < 4 → r < 8 → q < 8 → lane inverseTab (64 * s + (8 * r + q)) ≡ lane (rowTab r) (8 * groupOf s (q / 2) + q)
 unfolding inverseTab
-tab-at g r q n hg hr hq e =
-    let e1 : n % 64 / 8 ≡ r = omega arith in
-    let e2 : n / 64 ≡ g = omega arith in
-    let e3 : n % 8 ≡ q = omega arith in
-    getD-tab 256 (λ j. lane (rowTab (j % 64 / 8)) (8 * (j / 64) + j % 8)) n (pos 0) (omega arith) ∙ rw (e1, e2, e3) refl
+tab-at s r q hs hr hq =
+    let j = 64 * s + (8 * r + q) in
+    let e1 : j % 64 / 8 ≡ r = omega arith in
+    let e2 : j / 64 ≡ s = omega arith in
+    let e3 : j % 8 ≡ q = omega arith in
+    getD-tab 256 (λ j. lane (rowTab (j % 64 / 8)) (8 * groupOf (j / 64) (j % 8 / 2) + j % 8)) j (pos 0) (omega arith) ∙ rw (e1, e2, e3) refl
 
--- the pair of numbers k and k + 2 stands at `from` in the row
-first : (a : List ℤ) (from r c k : ℕ) → r < 8 → c < 4 → from < 7 → pairPlace from ≡ k → lane (spreadOf (pairUpOf a) from) (2 * (4 * r + c)) ≡ lane a (8 * r + k)
-first a from r c k hr hc hf e =
-    spread-at (pairUpOf a) from r 0 (2 * (4 * r + c)) (omega arith) (omega arith) (omega arith)
-    ∙ up-at a r from (8 * r + (from + 0)) hr (omega arith) (omega arith) ∙ ap (λ (i : ℕ). lane a (8 * r + i)) e
+-- ---- the pairs of products
 
-second : (a : List ℤ) (from r c k : ℕ) → r < 8 → c < 4 → from < 7 → pairPlace (from + 1) ≡ k → lane (spreadOf (pairUpOf a) from) (2 * (4 * r + c) + 1) ≡ lane a (8 * r + k)
-second a from r c k hr hc hf e =
-    spread-at (pairUpOf a) from r 1 (2 * (4 * r + c) + 1) (omega arith) (omega arith) (omega arith)
-    ∙ up-at a r (from + 1) (8 * r + (from + 1)) hr (omega arith) (omega arith) ∙ ap (λ (i : ℕ). lane a (8 * r + i)) e
-
-four : {x y u v x' y' u' v' : ℤ} → x ≡ x' → y ≡ y' → u ≡ u' → v ≡ v' → maddOf x y u v ≡ wrap32 (x' *ℤ y' +ℤ u' *ℤ v')
+swapped : {x y u v x' y' u' v' : ℤ} → x ≡ x' → y ≡ y' → u ≡ u' → v ≡ v' → maddOf x y u v ≡ wrap32 (u' *ℤ v' +ℤ x' *ℤ y')
 unfolding maddOf
-four p q r s = rw (p, q, r, s) refl
+swapped {x' = x'} {y' = y'} {u' = u'} {v' = v'} p q r s = rw (p, q, r, s) (ap wrap32 (+ℤ-comm (x' *ℤ y') (u' *ℤ v')))
 
-pair-at : (a : List ℤ) (from g k r c : ℕ) → g < 4 → r < 8 → c < 4 → from < 7 → pairPlace from ≡ k → pairPlace (from + 1) ≡ k + 2
-    → lane (pairsOf (spreadOf (pairUpOf a) from) inverseTab (64 * g)) (4 * r + c) ≡ wrap32 (pairSum a r k g c)
-unfolding pairsOf
-pair-at a from g k r c hg hr hc hf e f =
-    let x = spreadOf (pairUpOf a) from in
-    let j = 4 * r + c in
-    getD-tab 32 (λ i. maddOf (lane x (2 * i)) (lane inverseTab (64 * g + 2 * i)) (lane x (2 * i + 1)) (lane inverseTab (64 * g + (2 * i + 1)))) (4 * r + c) (pos 0) (omega arith)
-    ∙ four (first a from r c k hr hc hf e) (tab-at g r (2 * c) (64 * g + 2 * (4 * r + c)) hg hr (omega arith) (omega arith))
-    (second a from r c (k + 2) hr hc hf f) (tab-at g r (2 * c + 1) (64 * g + (2 * (4 * r + c) + 1)) hg hr (omega arith) (omega arith))
+module _ (a : List ℤ) (s from : ℕ) (hs : s < 4) where
+  abbrev x : List ℤ
+  x = spreadOf (pairUpOf a) from
 
-sum-is : (round : ℤ) (shift : ℕ) (a b c d : ℤ) → sumLane round shift (wrap32 a) (wrap32 b) (wrap32 c) (wrap32 d) ≡ rounded round shift ((a +ℤ b) +ℤ (c +ℤ d))
-unfolding sumLane evenOf add32Of
-sum-is round shift a b c d = ap (λ (z : ℤ). sat16 (sraOf z shift)) (wrap-sum a b c d round)
+  -- number p of a spread row is number k of the row
+  factor : (r p k : ℕ) → r < 8 → p < 8 → spreadPlace from p < 8 → pairPlace (spreadPlace from p) ≡ k → lane x (8 * r + p) ≡ lane a (8 * r + k)
+  factor r p k hr hp hf e = spread-at (pairUpOf a) from r p hr hp ∙ up-at a r (spreadPlace from p) hr hf ∙ ap (λ (i : ℕ). lane a (8 * r + i)) e
 
-diff-is : (round : ℤ) (shift : ℕ) (a b c d : ℤ) → diffLane round shift (wrap32 a) (wrap32 b) (wrap32 c) (wrap32 d) ≡ rounded round shift ((a +ℤ b) -ℤ (c +ℤ d))
-unfolding diffLane evenOf add32Of sub32Of
-diff-is round shift a b c d = ap (λ (z : ℤ). sat16 (sraOf z shift)) (wrap-diff a b c d round)
+  -- the pair of numbers k and k + 2, multiplied for number c of the row
+  pair-at : (r c k g : ℕ) → r < 8 → c < 4 → from < 7 → from % 2 ≡ 0 → pairPlace (spreadPlace from (2 * c)) ≡ k → pairPlace (spreadPlace from (2 * c + 1)) ≡ k + 2 → groupOf s c ≡ g
+      → lane (pairsOf x inverseTab (64 * s)) (4 * r + c) ≡ wrap32 (pairSum a r k g c)
+  unfolding pairsOf
+  pair-at r c k g hr hc hf hp e f eg =
+      let i = 4 * r + c in
+      let p0 : 2 * i ≡ 8 * r + 2 * c = omega arith in
+      let p1 : 2 * i + 1 ≡ 8 * r + (2 * c + 1) = omega arith in
+      let q0 : 2 * c / 2 ≡ c = omega arith in
+      let q1 : (2 * c + 1) / 2 ≡ c = omega arith in
+      getD-tab 32 (λ i. maddOf (lane x (2 * i + 1)) (lane inverseTab (64 * s + (2 * i + 1))) (lane x (2 * i)) (lane inverseTab (64 * s + 2 * i))) i (pos 0) (omega arith)
+      ∙ swapped
+      (ap (λ (j : ℕ). lane x j) p1 ∙ factor r (2 * c + 1) (k + 2) hr (omega arith) (omega arith) f)
+      (ap (λ (j : ℕ). lane inverseTab (64 * s + j)) p1 ∙ tab-at s r (2 * c + 1) hs hr (omega arith) ∙ ap (λ (j : ℕ). lane (rowTab r) (8 * j + (2 * c + 1))) (ap (groupOf s) q1 ∙ eg))
+      (ap (λ (j : ℕ). lane x j) p0 ∙ factor r (2 * c) k hr (omega arith) (omega arith) e)
+      (ap (λ (j : ℕ). lane inverseTab (64 * s + j)) p0 ∙ tab-at s r (2 * c) hs hr (omega arith) ∙ ap (λ (j : ℕ). lane (rowTab r) (8 * j + 2 * c)) (ap (groupOf s) q0 ∙ eg))
 
-by-four : (f : ℤ → ℤ → ℤ → ℤ → ℤ) (m0 m1 m2 m3 : List ℤ) (j : ℕ) {x y u v : ℤ} → j < 32 → lane m0 j ≡ x → lane m1 j ≡ y → lane m2 j ≡ u → lane m3 j ≡ v
-    → lane (byFour f m0 m1 m2 m3) j ≡ f x y u v
-unfolding byFour
-by-four f m0 m1 m2 m3 j h p q r s =
-    getD-tab 32 (λ i. f (lane m0 i) (lane m1 i) (lane m2 i) (lane m3 i)) j (pos 0) h ∙ rw (p, q, r, s) refl
+-- ---- the rows
+
+fours : (n q r : ℕ) → r < 4 → n ≡ 4 * q + r → n % 4 ≡ r
+fours n q r h e = omega arith
 
 module _ (round : ℤ) (shift : ℕ) (a : List ℤ) where
   abbrev m : ℕ → ℕ → List ℤ
-  m from at = pairsOf (spreadOf (pairUpOf a) from) inverseTab at
+  m from s = pairsOf (spreadOf (pairUpOf a) from) inverseTab (64 * s)
 
-  -- f of the four pairs of products of output c
-  at-four : (f : ℤ → ℤ → ℤ → ℤ → ℤ) (r c : ℕ) → r < 8 → c < 4
-      → lane (byFour f (m 0 0) (m 4 64) (m 2 128) (m 6 192)) (4 * r + c) ≡ f (wrap32 (pairSum a r 0 0 c)) (wrap32 (pairSum a r 4 1 c)) (wrap32 (pairSum a r 1 2 c)) (wrap32 (pairSum a r 5 3 c))
-  at-four f r c hr hc =
-      by-four f (m 0 0) (m 4 64) (m 2 128) (m 6 192) (4 * r + c) (omega arith)
-      (pair-at a 0 0 0 r c (omega arith) hr hc (omega arith) refl refl)
-      (pair-at a 4 1 4 r c (omega arith) hr hc (omega arith) refl refl)
-      (pair-at a 2 2 1 r c (omega arith) hr hc (omega arith) refl refl)
-      (pair-at a 6 3 5 r c (omega arith) hr hc (omega arith) refl refl)
+  abbrev half : Bool → List ℤ
+  half right = halfOf right round shift (m 0 0) (m 4 1) (m 2 2) (m 6 3)
 
-  abbrev lo : List ℤ
-  lo = byFour (sumLane round shift) (m 0 0) (m 4 64) (m 2 128) (m 6 192)
+  -- number c of a half, by its four pairs of products: in an odd place the pairs come in the other order
+  even-place : (right : Bool) (r c : ℕ) → r < 8 → c < 4 → c % 2 ≡ 0
+      → lane (half right) (4 * r + c) ≡ laneOf right round shift (wrap32 (pairSum a r 0 0 c)) (wrap32 (pairSum a r 4 1 c)) (wrap32 (pairSum a r 1 2 c)) (wrap32 (pairSum a r 5 3 c))
+  even-place right r c hr hc e =
+      let z : 2 * c % 4 / 2 ≡ 0 = omega arith in
+      let y : (2 * c + 1) % 4 ≡ 1 = fours (2 * c + 1) (c / 2) 1 (omega arith) (omega arith) in
+      let z1 : (2 * c + 1) % 4 / 2 ≡ 0 = rw y refl in
+      let b : 2 * c % 2 ≡ 0 = omega arith in
+      let b1 : (2 * c + 1) % 2 ≡ 1 = omega arith in
+      half-at right round shift (m 0 0) (m 4 1) (m 2 2) (m 6 3) (4 * r + c) (omega arith)
+      (pair-at a 0 0 (omega arith) r c 0 0 hr hc (omega arith) refl (rw (z, b) refl) (rw (z1, b1) refl) (rw e refl))
+      (pair-at a 1 4 (omega arith) r c 4 1 hr hc (omega arith) refl (rw (z, b) refl) (rw (z1, b1) refl) (rw e refl))
+      (pair-at a 2 2 (omega arith) r c 1 2 hr hc (omega arith) refl (rw (z, b) refl) (rw (z1, b1) refl) (rw e refl))
+      (pair-at a 3 6 (omega arith) r c 5 3 hr hc (omega arith) refl (rw (z, b) refl) (rw (z1, b1) refl) (rw e refl))
 
-  abbrev hi : List ℤ
-  hi = byFour (diffLane round shift) (m 0 0) (m 4 64) (m 2 128) (m 6 192)
+  odd-place : (right : Bool) (r c : ℕ) → r < 8 → c < 4 → c % 2 ≡ 1
+      → lane (half right) (4 * r + c) ≡ laneOf right round shift (wrap32 (pairSum a r 4 1 c)) (wrap32 (pairSum a r 0 0 c)) (wrap32 (pairSum a r 5 3 c)) (wrap32 (pairSum a r 1 2 c))
+  odd-place right r c hr hc e =
+      let z : 2 * c % 4 / 2 ≡ 1 = omega arith in
+      let y : (2 * c + 1) % 4 ≡ 3 = fours (2 * c + 1) (c / 2) 3 (omega arith) (omega arith) in
+      let z1 : (2 * c + 1) % 4 / 2 ≡ 1 = rw y refl in
+      let b : 2 * c % 2 ≡ 0 = omega arith in
+      let b1 : (2 * c + 1) % 2 ≡ 1 = omega arith in
+      half-at right round shift (m 0 0) (m 4 1) (m 2 2) (m 6 3) (4 * r + c) (omega arith)
+      (pair-at a 0 0 (omega arith) r c 4 1 hr hc (omega arith) refl (rw (z, b) refl) (rw (z1, b1) refl) (rw e refl))
+      (pair-at a 1 4 (omega arith) r c 0 0 hr hc (omega arith) refl (rw (z, b) refl) (rw (z1, b1) refl) (rw e refl))
+      (pair-at a 2 2 (omega arith) r c 5 3 hr hc (omega arith) refl (rw (z, b) refl) (rw (z1, b1) refl) (rw e refl))
+      (pair-at a 3 6 (omega arith) r c 1 2 hr hc (omega arith) refl (rw (z, b) refl) (rw (z1, b1) refl) (rw e refl))
 
-  left : (r c : ℕ) → r < 8 → c < 4 → lane lo (4 * r + c) ≡ rounded round shift (evenSum a r c +ℤ oddSum a r c)
-  left r c hr hc = at-four (sumLane round shift) r c hr hc ∙ sum-is round shift (pairSum a r 0 0 c) (pairSum a r 4 1 c) (pairSum a r 1 2 c) (pairSum a r 5 3 c)
+  abbrev sums : ℕ → ℕ → ℤ
+  sums r c = rounded round shift (evenSum a r c +ℤ oddSum a r c)
 
-  right : (r c : ℕ) → r < 8 → c < 4 → lane hi (4 * r + c) ≡ rounded round shift (evenSum a r c -ℤ oddSum a r c)
-  right r c hr hc = at-four (diffLane round shift) r c hr hc ∙ diff-is round shift (pairSum a r 0 0 c) (pairSum a r 4 1 c) (pairSum a r 1 2 c) (pairSum a r 5 3 c)
+  abbrev diffs : ℕ → ℕ → ℤ
+  diffs r c = rounded round shift (evenSum a r c -ℤ oddSum a r c)
+
+  parity : (c : ℕ) → (c % 2 ≡ 0) ⊎ (c % 2 ≡ 1)
+  parity c = go (c % 2) refl (omega arith)
+    where
+      go : (b : ℕ) → c % 2 ≡ b → b < 2 → (c % 2 ≡ 0) ⊎ (c % 2 ≡ 1)
+      go zero e h = inl e
+      go (suc zero) e h = inr e
+      go (suc (suc b)) e h = absurd (omega arith)
+
+  left : (r c : ℕ) → r < 8 → c < 4 → lane (half false) (4 * r + c) ≡ sums r c
+  left r c hr hc =
+      ⊎-elim
+      (λ e. even-place false r c hr hc e ∙ left-is round shift (pairSum a r 0 0 c) (pairSum a r 4 1 c) (pairSum a r 1 2 c) (pairSum a r 5 3 c))
+      (λ e. odd-place false r c hr hc e ∙ left-is round shift (pairSum a r 4 1 c) (pairSum a r 0 0 c) (pairSum a r 5 3 c) (pairSum a r 1 2 c)
+      ∙ ap₂ (λ (x y : ℤ). rounded round shift (x +ℤ y)) (+ℤ-comm (pairSum a r 4 1 c) (pairSum a r 0 0 c)) (+ℤ-comm (pairSum a r 5 3 c) (pairSum a r 1 2 c)))
+      (parity c)
+
+  right : (r c : ℕ) → r < 8 → c < 4 → lane (half true) (4 * r + c) ≡ diffs r c
+  right r c hr hc =
+      ⊎-elim
+      (λ e. even-place true r c hr hc e ∙ right-is round shift (pairSum a r 0 0 c) (pairSum a r 4 1 c) (pairSum a r 1 2 c) (pairSum a r 5 3 c))
+      (λ e. odd-place true r c hr hc e ∙ right-is round shift (pairSum a r 4 1 c) (pairSum a r 0 0 c) (pairSum a r 5 3 c) (pairSum a r 1 2 c)
+      ∙ ap₂ (λ (x y : ℤ). rounded round shift (x -ℤ y)) (+ℤ-comm (pairSum a r 4 1 c) (pairSum a r 0 0 c)) (+ℤ-comm (pairSum a r 5 3 c) (pairSum a r 1 2 c)))
+      (parity c)
+
+  row-at : (r c : ℕ) → r < 8 → c < 8 → lane (rowsOf round shift a) (8 * r + c) ≡ rowLane round shift a r c
+  unfolding rowsOf
+  row-at r c hr hc =
+      getD-tab 64 (λ i. rowLane round shift a (i / 8) (i % 8)) (8 * r + c) (pos 0) (omega arith) ∙ rw (row-of r c hc, col-of r c hc) refl
+
+  sum-lane : (r c : ℕ) → c < 4 → rowLane round shift a r c ≡ sums r c
+  unfolding rowLane
+  sum-lane r c h = rw (lt-ltb c 4 h) refl
+
+  diff-lane : (r c d : ℕ) → 4 ≤ c → 7 - c ≡ d → rowLane round shift a r c ≡ diffs r d
+  unfolding rowLane
+  diff-lane r c d h e = rw (le-ltb c 4 h, e) refl
 
   either : (r c : ℕ) (t : Bool) → r < 8 → c < 8 → ltb c 4 ≡ t
-      → pickZ t (lane lo (4 * r + c)) (lane hi (4 * r + (7 - c)))
-      ≡ pickZ t (rounded round shift (evenSum a r c +ℤ oddSum a r c)) (rounded round shift (evenSum a r (7 - c) -ℤ oddSum a r (7 - c)))
-  either r c true hr hc e = left r c hr (ltb-true c 4 e)
-  either r c false hr hc e = right r (7 - c) hr (omega (arith, ltb-false c 4 e))
+      → pickZ t (lane (half false) (4 * r + c)) (lane (half true) (4 * r + (c - 4))) ≡ lane (rowsOf round shift a) (8 * r + cond t c (11 - c))
+  either r c true hr hc e =
+      let h : c < 4 = ltb-true c 4 e in
+      left r c hr h ∙ sym (sum-lane r c h) ∙ sym (row-at r c hr hc)
+  either r c false hr hc e =
+      let h : 4 ≤ c = ltb-false c 4 e in
+      let k : 4 ≤ 11 - c = omega arith in
+      let d : 7 - (11 - c) ≡ c - 4 = omega arith in
+      right r (c - 4) hr (omega arith) ∙ sym (diff-lane r (11 - c) (c - 4) k d) ∙ sym (row-at r (11 - c) hr (omega arith))
 
-  pub rows-law : pairedRows round shift (pairUpOf a) inverseTab ≡ rowsOf round shift a
-  unfolding pairedRows foldOf rowsOf rowLane
+  pub rows-law : pairedRows round shift (pairUpOf a) inverseTab ≡ mirrorOf (rowsOf round shift a)
+  unfolding pairedRows sideOf mirrorOf
   rows-law = tab-ext 64 (λ i h. either (i / 8) (i % 8) (ltb (i % 8) 4) (omega arith) (omega arith) refl)
 
-pub length-spread : (a : List ℤ) (from : ℕ) → length (spreadOf a from) ≡ 64
-unfolding spreadOf
-length-spread a from = length-tab 64 (λ i. lane a (8 * (i / 8) + (from + i % 8 % 2)))
+-- ---- the shift, before or behind pair_up
 
-pub length-rows : (round : ℤ) (shift : ℕ) (a : List ℤ) → length (rowsOf round shift a) ≡ 64
-unfolding rowsOf
-length-rows round shift a = length-tab 64 (λ i. rowLane round shift a (i / 8) (i % 8))
+shift-at : (n : ℕ) (a : List ℤ) (i : ℕ) → i < 64 → lane (shiftedOf n a) i ≡ sraOf (lane a i) n
+unfolding shiftedOf
+shift-at n a i h = getD-tab 64 (λ i. sraOf (lane a i) n) i (pos 0) h
 
--- the calls of paired_rows, in order
-pub paired-law : (round : ℤ) (shift : ℕ) (a t : List ℤ) {x0 x1 x2 x3 m0 m1 m2 m3 lo hi w : List ℤ}
-    → x0 ≡ spreadOf a 0 → m0 ≡ pairsOf x0 t 0 → x1 ≡ spreadOf a 4 → m1 ≡ pairsOf x1 t 64 → x2 ≡ spreadOf a 2 → m2 ≡ pairsOf x2 t 128 → x3 ≡ spreadOf a 6 → m3 ≡ pairsOf x3 t 192
-    → lo ≡ byFour (sumLane round shift) m0 m1 m2 m3 → hi ≡ byFour (diffLane round shift) m0 m1 m2 m3 → w ≡ foldOf lo hi → w ≡ pairedRows round shift a t
+pub shift-law : (n : ℕ) (a : List ℤ) → shiftedOf n (pairUpOf a) ≡ pairUpOf (shiftedOf n a)
+unfolding pairUpOf shiftedOf
+shift-law n a =
+    tab-ext 64
+    (λ i h.
+    let k : pairPlace (i % 8) < 8 = pair-lt (i % 8) (omega arith) in
+    ap (λ (z : ℤ). sraOf z n) (getD-tab 64 (λ i. lane a (8 * (i / 8) + pairPlace (i % 8))) i (pos 0) h)
+    ∙ sym (shift-at n a (8 * (i / 8) + pairPlace (i % 8)) (omega arith)))
+
+-- ---- the calls of paired_rows in order
+
+pub paired-law : (round : ℤ) (shift : ℕ) (a b t : List ℤ) (e o : Two) {w : List ℤ} → t ≡ inverseTab → b ≡ a → e ≡ evensOf b t → o ≡ oddsOf b t
+    → w ≡ rowsFrom round shift (e .near) (e .far) (o .near) (o .far) → w ≡ pairedRows round shift a inverseTab
 unfolding pairedRows
-paired-law round shift a t e0 f0 e1 f1 e2 f2 e3 f3 p q r = rw (r, p, q, f0, f1, f2, f3, e0, e1, e2, e3) refl
+paired-law round shift a b t e o et eb ee eo ew = rw (ew, ee, eo, et, eb) refl

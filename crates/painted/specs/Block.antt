@@ -6,7 +6,7 @@ use Prim.Native.Nat.{ℕ}
 use lib.IntN.{ℤ}
 use Rattle.quant.specs.Quantise.{scanOf}
 use Rattle.paint.specs.Paint.{storeBlock, sampleAt}
-use Rattle.calls.specs.Arguments.{Depth, ten}
+use Rattle.calls.specs.Arguments.{Depth}
 use Rattle.calls.specs.ReadPlane.{BlockRead}
 use Rattle.calls.specs.Grid.{level}
 use Rattle.slice.specs.Plane.{blockSamples}
@@ -19,7 +19,3 @@ natural symbolRead nat = record { symbolRead = symbolRead; coeffs = scanOf nat }
 abbrev pub BlockPainted : Depth → ℕ → ℕ → ℤ → BlockRead → List ℕ → List ℕ → Type 0
 BlockPainted depth stride preset v b rows rows' =
     (place : ℕ) → v ≡ level depth place → rows' ≡ storeBlock stride (sampleAt (blockSamples depth preset place b)) rows
-
--- "A 10-bit block is always transformed": whether a symbol was read for it or not
-abbrev pub BlockPainted10 : ℕ → ℕ → ℤ → List ℤ → List ℕ → List ℕ → Type 0
-BlockPainted10 stride preset v nat rows rows' = (symbolRead : Bool) → BlockPainted ten stride preset v (natural symbolRead nat) rows rows'

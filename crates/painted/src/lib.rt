@@ -1,44 +1,51 @@
 // The painters of one block (write_block of slice.rs): each receives the rows from the block's corner on.
 // The divisors are tables::decode_numbers(preset)'s: a caller makes them once for a plane.
 ghost use mathlib.Core.Path.{_≡_};
+ghost use mathlib.Core.Bool.{not};
 ghost use Prim.Native.Nat.{_+_, _*_, _≤_, _<_};
 ghost use lib.ListN.{length};
 ghost use Rattle.tables.specs.Divisor.{divisorsOf};
-ghost use Rattle.calls.specs.Arguments.{eight, ten};
-ghost use Rattle.painted.specs.Block.{natural, BlockPainted, BlockPainted10};
+ghost use Rattle.calls.specs.Grid.{level};
+ghost use Rattle.painted.specs.Block.{natural};
+ghost use Rattle.painted.specs.Depths.{depthOf, rowsOf, PaintedAt};
 
-// Paints an 8-bit block: flat when no AC symbol was read for it, else by the inverse transform.
-pub fn paint8(
-    rows: &mut [u8],
+// The level of a plane.
+pub fn level_of(deep: bool, place: usize) -> i16
+    ensures { λ r. ⌜ r ≡ level (depthOf deep) place ⌝ }
+{
+    if deep {
+        planes::lane10(place)
+    } else {
+        planes::lane8(place)
+    }
+}
+
+// Paints a block into the rows at its corner c: an 8-bit block flat when no AC symbol was read for it, else by the inverse transform.
+// A plane has rows of 8 or of 16 bits; those of the other depth stay as they are. The transform has one caller for both depths.
+pub fn paint_at(
+    deep: bool,
+    rows8: &mut [u8],
+    rows16: &mut [u16],
+    c: usize,
     stride: usize,
     nat: [i16; 64],
     has_ac: bool,
     preset: usize,
-    d: &[u16; 64],
-    level: i16,
+    q: &[u16; 64],
+    v: i16,
 )
-    requires { ⌜ (8 ≤ stride) × (stride ≤ 7680) × (7 * stride + 8 ≤ length (now rows)) × (preset < 25) × (now d ≡ divisorsOf preset) ⌝ }
-    ensures { λ _. ⌜ BlockPainted eight stride preset level (natural «has_ac» nat) (now (rows .entry)) (now (rows .exit)) ⌝ }
+    requires { ⌜ (8 ≤ stride) × (stride ≤ 7680) × (c + (7 * stride + 8) ≤ length (rowsOf deep (now rows8) (now rows16))) × (c < 200000) × (preset < 25) × (now q ≡ divisorsOf preset) ⌝ }
+    ensures { λ _. ⌜ PaintedAt (depthOf deep) c stride preset v (natural «has_ac» nat) (rowsOf deep (now (rows8 .entry)) (now (rows16 .entry))) (rowsOf deep (now (rows8 .exit)) (now (rows16 .exit))) × (rowsOf (not deep) (now (rows8 .exit)) (now (rows16 .exit)) ≡ rowsOf (not deep) (now (rows8 .entry)) (now (rows16 .entry))) ⌝ }
 {
-    if has_ac {
-        dct::inverse::idct8(rows, stride, nat, preset, d, level);
+    if deep || has_ac {
+        let p = dct::inverse::idct_core(nat, preset, q, deep);
+        if deep {
+            dct::inverse::store16(&mut rows16[c..], stride, p, v);
+        } else {
+            dct::inverse::store8(&mut rows8[c..], stride, p, v);
+        }
     } else {
         let dc = nat[0];
-        dct::inverse::broadcast_dc8(rows, stride, dc, level);
+        dct::inverse::broadcast_dc8(&mut rows8[c..], stride, dc, v);
     }
-}
-
-// Paints a 10-bit block: always by the inverse transform.
-pub fn paint16(
-    rows: &mut [u16],
-    stride: usize,
-    nat: [i16; 64],
-    preset: usize,
-    d: &[u16; 64],
-    level: i16,
-)
-    requires { ⌜ (8 ≤ stride) × (stride ≤ 7680) × (7 * stride + 8 ≤ length (now rows)) × (preset < 25) × (now d ≡ divisorsOf preset) ⌝ }
-    ensures { λ _. ⌜ BlockPainted10 stride preset level nat (now (rows .entry)) (now (rows .exit)) ⌝ }
-{
-    dct::inverse::idct16(rows, stride, nat, preset, d, level);
 }

@@ -48,7 +48,8 @@ pub extern "C" fn probe_dct_inverse8(
         return;
     }
     let d = tables::decode_numbers(preset);
-    dct::inverse::idct8(rows, stride, block(nat), preset, &d, level);
+    let v = dct::inverse::idct_core(block(nat), preset, &d, false);
+    dct::inverse::store8(rows, stride, v, level);
 }
 
 // The same for 10-bit samples (idct16).
@@ -73,7 +74,8 @@ pub extern "C" fn probe_dct_inverse16(
         return;
     }
     let d = tables::decode_numbers(preset);
-    dct::inverse::idct16(rows, stride, block(nat), preset, &d, level);
+    let v = dct::inverse::idct_core(block(nat), preset, &d, true);
+    dct::inverse::store16(rows, stride, v, level);
 }
 
 // A flat block from the corner of the rows on (broadcast_dc8).

@@ -1,5 +1,6 @@
 // Many blocks a call, so that the oracle can time a block: a row of blocks, transformed one behind the other.
 // No contract beyond being safe on any arguments.
+ghost use Prim.Native.Nat.{_≤_};
 
 // A block of 64 out of lent numbers; zeros where there are fewer.
 fn block(s: &[i16]) -> [i16; 64] {
@@ -74,13 +75,39 @@ pub extern "C" fn probe_blocks_forward16(
     }
 }
 
-// Dequantising, inverse transform and store of one block of coefficients over a row of 8-bit blocks.
-#[no_mangle]
-pub extern "C" fn probe_blocks_inverse8(
+// The samples of a block's numbers, stored from c on where the rows of its depth are long enough.
+fn put(
+    deep: bool,
+    rows8: &mut [u8],
+    rows16: &mut [u16],
+    c: usize,
+    stride: usize,
+    v: [i16; 64],
+    level: i16,
+)
+    requires { ⌜ (8 ≤ stride) × (stride ≤ 7680) × (c ≤ 7680) ⌝ }
+{
+    if deep {
+        if c + (7 * stride + 8) <= rows16.len() {
+            dct::inverse::store16(&mut rows16[c..], stride, v, level);
+        }
+    } else {
+        if c + (7 * stride + 8) <= rows8.len() {
+            dct::inverse::store8(&mut rows8[c..], stride, v, level);
+        }
+    }
+}
+
+// Dequantising, inverse transform and store of one block of coefficients over a row of blocks. One loop for both depths, as in
+// reading: the transform has one caller. The rows of the other depth are not looked at.
+fn inverse(
+    deep: bool,
     nat: &[i16],
     preset: usize,
-    rows: &mut [u8],
+    rows8: &mut [u8],
+    rows16: &mut [u16],
     stride: usize,
+    level: i16,
 ) {
     if 24 < preset {
         return;
@@ -91,13 +118,23 @@ pub extern "C" fn probe_blocks_inverse8(
     if 7680 < stride {
         return;
     }
-    if rows.len() < 8 * stride {
-        return;
-    }
     let d = tables::decode_numbers(preset);
     for i in 0..stride / 8 {
-        dct::inverse::idct8(&mut rows[8 * i..], stride, block(nat), preset, &d, 128);
+        let v = dct::inverse::idct_core(block(nat), preset, &d, deep);
+        put(deep, rows8, rows16, 8 * i, stride, v, level);
     }
+}
+
+// Dequantising, inverse transform and store of one block of coefficients over a row of 8-bit blocks.
+#[no_mangle]
+pub extern "C" fn probe_blocks_inverse8(
+    nat: &[i16],
+    preset: usize,
+    rows: &mut [u8],
+    stride: usize,
+) {
+    let mut none = [0u16; 1];
+    inverse(false, nat, preset, rows, &mut none, stride, 128);
 }
 
 // The same for 10-bit samples.
@@ -108,20 +145,6 @@ pub extern "C" fn probe_blocks_inverse16(
     rows: &mut [u16],
     stride: usize,
 ) {
-    if 24 < preset {
-        return;
-    }
-    if stride < 8 {
-        return;
-    }
-    if 7680 < stride {
-        return;
-    }
-    if rows.len() < 8 * stride {
-        return;
-    }
-    let d = tables::decode_numbers(preset);
-    for i in 0..stride / 8 {
-        dct::inverse::idct16(&mut rows[8 * i..], stride, block(nat), preset, &d, 512);
-    }
+    let mut none = [0u8; 1];
+    inverse(true, nat, preset, &mut none, rows, stride, 512);
 }

@@ -75,12 +75,13 @@ fn forward(nat: [i16; 64], add: i16, ten: bool, preset: usize) -> [i16; 64] {
 fn inverse(nat: [i16; 64], level: i16, ten: bool, preset: usize) -> [i16; 64] {
     if preset < 25 {
         let d = tables::decode_numbers(preset);
+        let a = quant::dequant(nat, preset, &d, 0);
         if ten {
-            let a = quant::dequant(nat, preset, &d, 2);
-            stored16(idct::inverse16(a, level))
+            let v = idct::inverse(a, 2, true);
+            stored16(idct::words(v, level))
         } else {
-            let a = quant::dequant(nat, preset, &d, 4);
-            stored8(idct::inverse8(a, level))
+            let v = idct::inverse(a, 4, false);
+            stored8(idct::bytes(v, level))
         }
     } else {
         nat

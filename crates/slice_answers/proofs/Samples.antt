@@ -24,7 +24,7 @@ use Rattle.frow.specs.Rows as frow
 use Rattle.fdct.specs.Forward as fdct
 use Rattle.irow.specs.RowPass as irow
 use Rattle.icol.specs.Steps as icol
-use Rattle.idct.specs.Columns as columns
+use Rattle.icols.specs.Columns as columns
 use Rattle.idct.specs.Inverse.{inverseOf, samplesOf}
 use Rattle.paint.specs.Paint.{over}
 use Rattle.paint.specs.Samples.{flatSample}

@@ -2,7 +2,7 @@
 // first; each block is read from both streams and painted at its corner. The reader of a block has one caller, so that the compiler makes
 // it part of the loop and a block stays where it was read.
 ghost use Rattle.encplane.specs.Coding.{settings, plane};
-ghost use Rattle.paintat.specs.Depths.{depthOf, rowsOf};
+ghost use Rattle.painted.specs.Depths.{depthOf, rowsOf};
 ghost use Rattle.storeplane.specs.Storing.{PlaneGood, PlaneStored};
 use planebits::Ends;
 
@@ -23,7 +23,7 @@ pub fn plane(
     requires { ⌜ PlaneGood preset shift stride (rowsOf deep (now rows8) (now rows16)) (now dc) d (now ac) a ⌝ }
     ensures { λ r. ⌜ PlaneStored (settings (depthOf deep) preset shift) (plane place stride (rowsOf deep (now (rows8 .entry)) (now (rows16 .entry)))) (now (dc .entry)) d (now (ac .entry)) a r (rowsOf deep (now (rows8 .exit)) (now (rows16 .exit))) ⌝ }
 {
-    let v = paintat::level_of(deep, place);
+    let v = painted::level_of(deep, place);
     let q = tables::decode_numbers(preset);
     let z = tables::zigzag_order();
     let cols = stride / 8;
@@ -34,7 +34,7 @@ pub fn plane(
             let c = planes::corner(stride, j, k);
             let nat = g.nat;
             let flat = g.flat;
-            paintat::paint_at(deep, rows8, rows16, c, stride, nat, !flat, preset, &q, v);
+            painted::paint_at(deep, rows8, rows16, c, stride, nat, !flat, preset, &q, v);
             let next = g.next;
             s = next;
         }

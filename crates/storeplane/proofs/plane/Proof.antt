@@ -9,7 +9,7 @@ use borrow.Author.Needs.{needs, sfits-of}
 use mir.Facts.{toZ-ofZ}
 use Rattle.encplane.specs.Coding.{plane}
 use Rattle.planes.proofs.Laws.{corner-fits}
-use Rattle.paintat.specs.Depths.{depthOf, rowsOf}
+use Rattle.painted.specs.Depths.{depthOf, rowsOf}
 use Rattle.storeplane.proofs.Loops.{Behind, Row, begun, as-long, asks, inside, next, next-row, ended, done}
 use Rattle.storeplane.proofs.plane.Statement.{statement}
 use Rattle.storeplane.proofs.plane.Tie as tie

@@ -1,0 +1,3 @@
+pub mod Turn
+pub mod Mirror
+pub mod Level
