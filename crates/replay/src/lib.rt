@@ -202,6 +202,51 @@ fn sample_wanted(k: usize, fill: u16, end: usize, stored: &[u8]) -> u16 {
     number(stored, 2 * k)
 }
 
+// A number for each of four planes.
+pub struct Four {
+    pub p0: usize,
+    pub p1: usize,
+    pub p2: usize,
+    pub p3: usize,
+}
+
+fn four_sizes(b: &[u8], at: usize) -> Four
+    requires { ⌜ at < 60000 ⌝ }
+{
+    Four {
+        p0: size(b, at),
+        p1: size(b, at + 2),
+        p2: size(b, at + 4),
+        p3: size(b, at + 6),
+    }
+}
+
+// The arguments of a call on planes: preset, shift, the plane's place or how many planes, where the streams begin;
+// strides, where each plane's samples begin, how many it has.
+pub struct Asked {
+    pub preset: usize,
+    pub shift: u32,
+    pub which: usize,
+    pub d: usize,
+    pub a: usize,
+    pub strides: Four,
+    pub starts: Four,
+    pub counts: Four,
+}
+
+pub fn call_of(b: &[u8]) -> Asked {
+    Asked {
+        preset: size(b, 4),
+        shift: widened(number(b, 6)),
+        which: size(b, 8),
+        d: position(b, 40),
+        a: position(b, 48),
+        strides: four_sizes(b, 16),
+        starts: four_sizes(b, 24),
+        counts: four_sizes(b, 32),
+    }
+}
+
 // Whether a record of a call on planes has this number and these positions as its answer.
 pub fn answered(b: &[u8], number: u32, d: usize, a: usize) -> bool {
     if b.len() < 72 {

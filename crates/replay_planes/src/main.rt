@@ -2,7 +2,9 @@
 // answer, the streams that it wrote, and samples, which are repeated until 512 are there.
 ghost use Prim.Native.Nat.{_<_};
 use encoder::CodeAnswer;
+use replay::Asked;
 use replay::answered;
+use replay::call_of;
 use replay::count;
 use replay::cut;
 use replay::number;
@@ -44,79 +46,75 @@ fn samples10(b: &[u8; 552]) -> [u16; 512] {
     r
 }
 
-fn shift_of(b: &[u8]) -> u32 {
-    replay::widened(number(b, 6))
-}
-
 // The call on an 8-bit plane.
-fn plane8(b: &[u8], rows: &[u8], dcs: &mut [u8], acs: &mut [u8]) -> CodeAnswer {
+fn plane8(c: Asked, rows: &[u8], dcs: &mut [u8], acs: &mut [u8]) -> CodeAnswer {
     encoder::encode_plane8(
-        part(rows, size(b, 24), size(b, 32)),
-        size(b, 16),
-        size(b, 8),
-        size(b, 4),
-        shift_of(b),
+        part(rows, c.starts.p0, c.counts.p0),
+        c.strides.p0,
+        c.which,
+        c.preset,
+        c.shift,
         dcs,
-        position(b, 40),
+        c.d,
         acs,
-        position(b, 48),
+        c.a,
     )
 }
 
 // The call on a 10-bit plane.
-fn plane10(b: &[u8], rows: &[u16], dcs: &mut [u8], acs: &mut [u8]) -> CodeAnswer {
+fn plane10(c: Asked, rows: &[u16], dcs: &mut [u8], acs: &mut [u8]) -> CodeAnswer {
     encoder::encode_plane10(
-        part16(rows, size(b, 24), size(b, 32)),
-        size(b, 16),
-        size(b, 8),
-        size(b, 4),
-        shift_of(b),
+        part16(rows, c.starts.p0, c.counts.p0),
+        c.strides.p0,
+        c.which,
+        c.preset,
+        c.shift,
         dcs,
-        position(b, 40),
+        c.d,
         acs,
-        position(b, 48),
+        c.a,
     )
 }
 
 // The call on an 8-bit slice.
-fn slice8(b: &[u8], rows: &[u8], dcs: &mut [u8], acs: &mut [u8]) -> CodeAnswer {
+fn slice8(c: Asked, rows: &[u8], dcs: &mut [u8], acs: &mut [u8]) -> CodeAnswer {
     encoder::encode_slice8(
-        part(rows, size(b, 24), size(b, 32)),
-        size(b, 16),
-        part(rows, size(b, 26), size(b, 34)),
-        size(b, 18),
-        part(rows, size(b, 28), size(b, 36)),
-        size(b, 20),
-        part(rows, size(b, 30), size(b, 38)),
-        size(b, 22),
-        size(b, 8),
-        size(b, 4),
-        shift_of(b),
+        part(rows, c.starts.p0, c.counts.p0),
+        c.strides.p0,
+        part(rows, c.starts.p1, c.counts.p1),
+        c.strides.p1,
+        part(rows, c.starts.p2, c.counts.p2),
+        c.strides.p2,
+        part(rows, c.starts.p3, c.counts.p3),
+        c.strides.p3,
+        c.which,
+        c.preset,
+        c.shift,
         dcs,
-        position(b, 40),
+        c.d,
         acs,
-        position(b, 48),
+        c.a,
     )
 }
 
 // The call on a 10-bit slice.
-fn slice10(b: &[u8], rows: &[u16], dcs: &mut [u8], acs: &mut [u8]) -> CodeAnswer {
+fn slice10(c: Asked, rows: &[u16], dcs: &mut [u8], acs: &mut [u8]) -> CodeAnswer {
     encoder::encode_slice10(
-        part16(rows, size(b, 24), size(b, 32)),
-        size(b, 16),
-        part16(rows, size(b, 26), size(b, 34)),
-        size(b, 18),
-        part16(rows, size(b, 28), size(b, 36)),
-        size(b, 20),
-        part16(rows, size(b, 30), size(b, 38)),
-        size(b, 22),
-        size(b, 8),
-        size(b, 4),
-        shift_of(b),
+        part16(rows, c.starts.p0, c.counts.p0),
+        c.strides.p0,
+        part16(rows, c.starts.p1, c.counts.p1),
+        c.strides.p1,
+        part16(rows, c.starts.p2, c.counts.p2),
+        c.strides.p2,
+        part16(rows, c.starts.p3, c.counts.p3),
+        c.strides.p3,
+        c.which,
+        c.preset,
+        c.shift,
         dcs,
-        position(b, 40),
+        c.d,
         acs,
-        position(b, 48),
+        c.a,
     )
 }
 
@@ -124,9 +122,9 @@ fn slice10(b: &[u8], rows: &[u16], dcs: &mut [u8], acs: &mut [u8]) -> CodeAnswer
 fn eight(b: &[u8; 552], dcs: &mut [u8], acs: &mut [u8]) -> CodeAnswer {
     let rows = samples8(b);
     if b[0] == 0 {
-        plane8(b, &rows, dcs, acs)
+        plane8(call_of(b), &rows, dcs, acs)
     } else {
-        slice8(b, &rows, dcs, acs)
+        slice8(call_of(b), &rows, dcs, acs)
     }
 }
 
@@ -134,9 +132,9 @@ fn eight(b: &[u8; 552], dcs: &mut [u8], acs: &mut [u8]) -> CodeAnswer {
 fn ten(b: &[u8; 552], dcs: &mut [u8], acs: &mut [u8]) -> CodeAnswer {
     let rows = samples10(b);
     if b[0] == 1 {
-        plane10(b, &rows, dcs, acs)
+        plane10(call_of(b), &rows, dcs, acs)
     } else {
-        slice10(b, &rows, dcs, acs)
+        slice10(call_of(b), &rows, dcs, acs)
     }
 }
 

@@ -2,22 +2,15 @@
 // (oracle/ANSWERS.md): the call's arguments, its answer, both streams, and what the rows hold behind the call.
 ghost use Prim.Native.Nat.{_<_};
 use decoder::ReadAnswer;
+use replay::Asked;
 use replay::answered;
+use replay::call_of;
 use replay::count;
 use replay::cut;
 use replay::cut16;
 use replay::number;
 use replay::part;
-use replay::position;
 use replay::size;
-
-fn shift_of(b: &[u8]) -> u32 {
-    replay::widened(number(b, 6))
-}
-
-fn place_of(b: &[u8]) -> u32 {
-    replay::widened(number(b, 8))
-}
 
 // The DC stream.
 fn dc_of(b: &[u8]) -> &[u8] {
@@ -38,33 +31,33 @@ fn same_answer(b: &[u8], r: ReadAnswer) -> bool {
 }
 
 // The call on an 8-bit plane.
-fn plane8(b: &[u8], dc: &[u8], ac: &[u8], rows: &mut [u8]) -> bool {
+fn plane8(b: &[u8], c: Asked, dc: &[u8], ac: &[u8], rows: &mut [u8]) -> bool {
     let r = decoder::decode_plane8(
-        cut(rows, size(b, 32)),
-        size(b, 16),
-        size(b, 8),
-        size(b, 4),
-        shift_of(b),
+        cut(rows, c.counts.p0),
+        c.strides.p0,
+        c.which,
+        c.preset,
+        c.shift,
         dc,
-        position(b, 40),
+        c.d,
         ac,
-        position(b, 48),
+        c.a,
     );
     same_answer(b, r)
 }
 
 // The call on a 10-bit plane.
-fn plane10(b: &[u8], dc: &[u8], ac: &[u8], rows: &mut [u16]) -> bool {
+fn plane10(b: &[u8], c: Asked, dc: &[u8], ac: &[u8], rows: &mut [u16]) -> bool {
     let r = decoder::decode_plane10(
-        cut16(rows, size(b, 32)),
-        size(b, 16),
-        size(b, 8),
-        size(b, 4),
-        shift_of(b),
+        cut16(rows, c.counts.p0),
+        c.strides.p0,
+        c.which,
+        c.preset,
+        c.shift,
         dc,
-        position(b, 40),
+        c.d,
         ac,
-        position(b, 48),
+        c.a,
     );
     same_answer(b, r)
 }
@@ -72,6 +65,7 @@ fn plane10(b: &[u8], dc: &[u8], ac: &[u8], rows: &mut [u16]) -> bool {
 // The call on an 8-bit slice.
 fn slice8(
     b: &[u8],
+    c: Asked,
     dc: &[u8],
     ac: &[u8],
     p0: &mut [u8],
@@ -80,21 +74,21 @@ fn slice8(
     p3: &mut [u8],
 ) -> bool {
     let r = decoder::decode_slice8(
-        cut(p0, size(b, 32)),
-        size(b, 16),
-        cut(p1, size(b, 34)),
-        size(b, 18),
-        cut(p2, size(b, 36)),
-        size(b, 20),
-        cut(p3, size(b, 38)),
-        size(b, 22),
-        size(b, 8),
-        size(b, 4),
-        shift_of(b),
+        cut(p0, c.counts.p0),
+        c.strides.p0,
+        cut(p1, c.counts.p1),
+        c.strides.p1,
+        cut(p2, c.counts.p2),
+        c.strides.p2,
+        cut(p3, c.counts.p3),
+        c.strides.p3,
+        c.which,
+        c.preset,
+        c.shift,
         dc,
-        position(b, 40),
+        c.d,
         ac,
-        position(b, 48),
+        c.a,
     );
     same_answer(b, r)
 }
@@ -102,6 +96,7 @@ fn slice8(
 // The call on a 10-bit slice.
 fn slice10(
     b: &[u8],
+    c: Asked,
     dc: &[u8],
     ac: &[u8],
     p0: &mut [u16],
@@ -110,51 +105,47 @@ fn slice10(
     p3: &mut [u16],
 ) -> bool {
     let r = decoder::decode_slice10(
-        cut16(p0, size(b, 32)),
-        size(b, 16),
-        cut16(p1, size(b, 34)),
-        size(b, 18),
-        cut16(p2, size(b, 36)),
-        size(b, 20),
-        cut16(p3, size(b, 38)),
-        size(b, 22),
-        size(b, 8),
-        size(b, 4),
-        shift_of(b),
+        cut16(p0, c.counts.p0),
+        c.strides.p0,
+        cut16(p1, c.counts.p1),
+        c.strides.p1,
+        cut16(p2, c.counts.p2),
+        c.strides.p2,
+        cut16(p3, c.counts.p3),
+        c.strides.p3,
+        c.which,
+        c.preset,
+        c.shift,
         dc,
-        position(b, 40),
+        c.d,
         ac,
-        position(b, 48),
+        c.a,
     );
     same_answer(b, r)
 }
 
 // The preview, into the first two planes' rows.
-fn previewed(b: &[u8], dc: &[u8], upper: &mut [u8], lower: &mut [u8]) -> bool {
-    let d = position(b, 40);
-    let a = position(b, 48);
+fn previewed(b: &[u8], c: Asked, dc: &[u8], upper: &mut [u8], lower: &mut [u8]) -> bool {
     let r = preview::preview(
-        shift_of(b),
-        place_of(b),
-        size(b, 16),
-        cut(upper, size(b, 32)),
-        cut(lower, size(b, 34)),
+        c.shift,
+        replay::widened(number(b, 8)),
+        c.strides.p0,
+        cut(upper, c.counts.p0),
+        cut(lower, c.counts.p1),
         dc,
-        d,
+        c.d,
     );
     match r {
-        preview::PlaneEnd::Refused(x) => answered(b, x, d, a),
-        preview::PlaneEnd::At(e) => answered(b, 0, e, a),
+        preview::PlaneEnd::Refused(x) => answered(b, x, c.d, c.a),
+        preview::PlaneEnd::At(e) => answered(b, 0, e, c.a),
     }
 }
 
 // The block report, into the first plane's rows.
-fn reported(b: &[u8], ac: &[u8], rows: &mut [u8]) -> bool {
-    let d = position(b, 40);
-    let a = position(b, 48);
-    match report::block_report(size(b, 16), cut(rows, size(b, 32)), ac, a) {
-        acthrough::PlaneEnd::Refused(x) => answered(b, x, d, a),
-        acthrough::PlaneEnd::At(e) => answered(b, 0, d, e),
+fn reported(b: &[u8], c: Asked, ac: &[u8], rows: &mut [u8]) -> bool {
+    match report::block_report(c.strides.p0, cut(rows, c.counts.p0), ac, c.a) {
+        acthrough::PlaneEnd::Refused(x) => answered(b, x, c.d, c.a),
+        acthrough::PlaneEnd::At(e) => answered(b, 0, c.d, e),
     }
 }
 
@@ -177,13 +168,17 @@ fn same10(b: &[u8; 808], k: usize, rows: &[u16; 280]) -> bool {
     replay::holds_stored16(rows, fill, n, part(b, 296 + 2 * size(b, 24 + 2 * k), 2 * n))
 }
 
+fn all_of(a: bool, b: bool, c: bool, d: bool, e: bool) -> bool {
+    a && b && c && d && e
+}
+
 // An 8-bit plane or a report: one plane's rows.
 fn one8(b: &[u8; 808], dc: &[u8], ac: &[u8]) -> bool {
     let mut p = [b[1]; 280];
     let ok = if b[0] == 0 {
-        plane8(b, dc, ac, &mut p)
+        plane8(b, call_of(b), dc, ac, &mut p)
     } else {
-        reported(b, ac, &mut p)
+        reported(b, call_of(b), ac, &mut p)
     };
     ok && same8(b, 0, &p)
 }
@@ -192,8 +187,8 @@ fn one8(b: &[u8; 808], dc: &[u8], ac: &[u8]) -> bool {
 fn two8(b: &[u8; 808], dc: &[u8]) -> bool {
     let mut p0 = [b[1]; 280];
     let mut p1 = [b[1]; 280];
-    let ok = previewed(b, dc, &mut p0, &mut p1);
-    ok && same8(b, 0, &p0) && same8(b, 1, &p1)
+    let ok = previewed(b, call_of(b), dc, &mut p0, &mut p1);
+    all_of(ok, same8(b, 0, &p0), same8(b, 1, &p1), true, true)
 }
 
 // An 8-bit slice.
@@ -202,14 +197,20 @@ fn four8(b: &[u8; 808], dc: &[u8], ac: &[u8]) -> bool {
     let mut p1 = [b[1]; 280];
     let mut p2 = [b[1]; 280];
     let mut p3 = [b[1]; 280];
-    let ok = slice8(b, dc, ac, &mut p0, &mut p1, &mut p2, &mut p3);
-    ok && same8(b, 0, &p0) && same8(b, 1, &p1) && same8(b, 2, &p2) && same8(b, 3, &p3)
+    let ok = slice8(b, call_of(b), dc, ac, &mut p0, &mut p1, &mut p2, &mut p3);
+    all_of(
+        ok,
+        same8(b, 0, &p0),
+        same8(b, 1, &p1),
+        same8(b, 2, &p2),
+        same8(b, 3, &p3),
+    )
 }
 
 // A 10-bit plane.
 fn one10(b: &[u8; 808], dc: &[u8], ac: &[u8]) -> bool {
     let mut p = [replay::twice(b[1]); 280];
-    let ok = plane10(b, dc, ac, &mut p);
+    let ok = plane10(b, call_of(b), dc, ac, &mut p);
     ok && same10(b, 0, &p)
 }
 
@@ -220,8 +221,14 @@ fn four10(b: &[u8; 808], dc: &[u8], ac: &[u8]) -> bool {
     let mut p1 = [fill; 280];
     let mut p2 = [fill; 280];
     let mut p3 = [fill; 280];
-    let ok = slice10(b, dc, ac, &mut p0, &mut p1, &mut p2, &mut p3);
-    ok && same10(b, 0, &p0) && same10(b, 1, &p1) && same10(b, 2, &p2) && same10(b, 3, &p3)
+    let ok = slice10(b, call_of(b), dc, ac, &mut p0, &mut p1, &mut p2, &mut p3);
+    all_of(
+        ok,
+        same10(b, 0, &p0),
+        same10(b, 1, &p1),
+        same10(b, 2, &p2),
+        same10(b, 3, &p3),
+    )
 }
 
 // The call that the record names, on these streams.
@@ -242,12 +249,19 @@ fn longest(n: usize, more: bool) -> usize
     if more { n + 1 } else { n }
 }
 
+fn on_ones(b: &[u8; 808], ones: &[u8; 430081], d: usize, a: usize) -> bool {
+    called(b, part(ones, 0, d), part(ones, 0, a))
+}
+
 // Streams of ones, as long as may be read, or with a byte more.
 fn on_long(b: &[u8; 808]) -> bool {
-    let d = longest(245760, b[3] == 2);
-    let a = longest(430080, b[3] == 3);
     let ones = [255u8; 430081];
-    called(b, part(&ones, 0, d), part(&ones, 0, a))
+    on_ones(
+        b,
+        &ones,
+        longest(245760, b[3] == 2),
+        longest(430080, b[3] == 3),
+    )
 }
 
 fn holds(b: &[u8; 808]) -> bool {
