@@ -8,8 +8,6 @@ ghost use Rattle.bits.specs.Bits.{bitsOf, bitLength, valueCode, runCode, padToB
 ghost use Rattle.bits.specs.Lay.{lay};
 ghost use Rattle.bitacc.specs.Put.{Room, LastRoom, Put, flushed};
 
-pub mod lent;
-
 pub struct BitAcc {
     // The bits that wait, in the low end.
     pub acc: u64,

@@ -1,4 +1,4 @@
--- `bitacc::lent::align` meets its contract: a walk of its MIR, by hand.
+-- `bitlent::align` meets its contract: a walk of its MIR, by hand.
 -- The borrow is opened, the struct is copied out whole and passed to the core, of which the proof knows only that it meets its contract; what comes back is stored over it, and the borrow is closed. Assumes nothing.
 use mathlib.Core.Path.{_≡_, refl}
 use Prim.Native.Nat.{ℕ, _<_, _^_}
@@ -40,18 +40,18 @@ use denote.Triple.Table.{entered, cited}
 use denote.Triple.Walked.{says, needs, Stays, stay-ref, gave-slice, walkOf, AllGo, goes-ref, goes-gave-slice, Walks, ends-at, walked, walk-meets}
 use Rattle.bits.specs.Bits.{bitsOf, padToByte}
 use Rattle.bits.specs.Lay.{lay}
 use Rattle.bitacc.specs.Put.{LastRoom, flushed}
 use Rattle.bitacc.specs.declared.BitAcc.{BitAcc}
 use Rattle.bitacc.proofs.BitAcc as T
 use Rattle.bitacc.proofs.BitAcc.Laws as T′
 use Rattle.bitacc.proofs.align as core
 use Rattle.bitacc.proofs.align.Symbol as core-def
 use Rattle.bitacc.proofs.align.Symbol.{name as #core}
 use Rattle.bitacc.proofs.align.Met as core-thm
-use Rattle.bitacc.proofs.lent.align.Key.{name as #lent}
-use Rattle.bitacc.proofs.lent.align as f
-use Rattle.bitacc.proofs.lent.align.Statement as stated
-use Rattle.bitacc.proofs.lent.align.Code as code
+use Rattle.bitlent.proofs.align.Key.{name as #lent}
+use Rattle.bitlent.proofs.align as f
+use Rattle.bitlent.proofs.align.Statement as stated
+use Rattle.bitlent.proofs.align.Code as code
 
 -- what is asked, and what is done
 abbrev May : BitAcc → List ℕ → Type 0
