@@ -7,14 +7,8 @@ ghost use Rattle.slice.specs.Calls.{decodePlane, decodeSlice};
 ghost use Rattle.encplane.specs.Coding.{settings, plane};
 ghost use Rattle.encslice.specs.SliceCoding.{rows};
 ghost use Rattle.judge.specs.Good.{buffers, positions};
-ghost use Rattle.decoder.specs.Answers.{answered};
-
-pub enum ReadAnswer {
-    // The number of the first "no", 8 for a bad code, and the positions of both streams as they were given.
-    Refused(u32, usize, usize),
-    // Where the planes' two streams end.
-    Accepted(usize, usize),
-}
+ghost use Rattle.answers.specs.Read.{answered};
+pub use answers::ReadAnswer;
 
 // Reads a plane of 8-bit samples into its rows, from the positions d and a on.
 pub fn decode_plane8(

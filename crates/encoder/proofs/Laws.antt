@@ -16,7 +16,7 @@ use Rattle.asks.proofs.Passed.{LegalPlane, Every, coding-legal}
 use Rattle.planebits.specs.declared.Ends.{Ends}
 use Rattle.encplane.specs.Coding.{settings, plane, PlaneOk, PlaneDone}
 use Rattle.encslice.specs.SliceCoding.{rows, AllRowsLeft, SliceOk, SliceDone}
-use Rattle.encoder.specs.Answers.{buffers, positions}
+use Rattle.answers.specs.Streams.{buffers, positions}
 
 -- ---- any call
 module _ (c : Call) (dcs : List ℕ) (d : ℕ) (acs : List ℕ) (a : ℕ) where

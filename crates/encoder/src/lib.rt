@@ -5,14 +5,9 @@ ghost use Rattle.calls.specs.Arguments.{eight, ten};
 ghost use Rattle.slice.specs.Calls.{encodePlane, encodeSlice};
 ghost use Rattle.encplane.specs.Coding.{settings, plane};
 ghost use Rattle.encslice.specs.SliceCoding.{rows};
-ghost use Rattle.encoder.specs.Answers.{buffers, positions, answered};
-
-pub enum CodeAnswer {
-    // The number of the first "no", and the positions of both streams as they were given.
-    Refused(u32, usize, usize),
-    // Where the two streams end.
-    Accepted(usize, usize),
-}
+ghost use Rattle.answers.specs.Streams.{buffers, positions};
+ghost use Rattle.answers.specs.Code.{answered};
+pub use answers::CodeAnswer;
 
 // Codes an 8-bit plane behind the positions d and a.
 pub fn encode_plane8(

@@ -4,7 +4,7 @@ use mathlib.Core.List.{List}
 use Prim.Native.Nat.{ℕ}
 use Rattle.slice.specs.Calls.{Coded, Decoded}
 use Rattle.calls.specs.Previews.{Previewed, Reported, Sized}
-use Rattle.encoder.specs.Answers.{buffers, positions}
+use Rattle.answers.specs.Streams.{buffers, positions}
 
 -- a coding call: number, both positions, both buffers
 abbrev pub codedAs : ℕ → ℕ → ℕ → List ℕ → List ℕ → Coded

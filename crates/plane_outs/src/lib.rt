@@ -1,17 +1,17 @@
 // Answers of the calls on planes and slices, handed out: the number is returned, positions and lengths go into the places that
 // the caller lends for them.
-use decoder::ReadAnswer;
-use encoder::CodeAnswer;
-use sizes::SizeAnswer;
+use answers::CodeAnswer;
+use answers::ReadAnswer;
+use answers::SizeAnswer;
 ghost use mathlib.Core.Path.{_≡_};
 ghost use mathlib.Core.List.{List};
 ghost use Prim.Native.Nat.{ℕ};
-ghost use Rattle.sizes.specs.Answers.{sizeSays};
+ghost use Rattle.answers.specs.Size.{sizeSays};
 ghost use Rattle.preview.specs.Answer.{previewSays};
 ghost use Rattle.report.specs.Report.{reportSays};
 ghost use Rattle.plane_outs.specs.Planes.{codedAs, decodedAs, previewedAs, reportedAs, sizedAs};
-ghost use Rattle.encoder.specs.Answers.{answered as codedAnswered};
-ghost use Rattle.decoder.specs.Answers.{answered as readAnswered};
+ghost use Rattle.answers.specs.Code.{answered as codedAnswered};
+ghost use Rattle.answers.specs.Read.{answered as readAnswered};
 
 // Of a coding call: both positions, as they were given where it is refused.
 pub fn coded_out(answer: CodeAnswer, dc_at: &mut usize, ac_at: &mut usize) -> u32

@@ -1,14 +1,8 @@
 // The size calls: a length that each stream of a plane, or of a slice, is at most: 4 bytes a block for DC, 197 for AC.
 ghost use mathlib.Core.Path.{_≡_};
 ghost use Rattle.calls.specs.Previews.{planeSize, sliceSize};
-ghost use Rattle.sizes.specs.Answers.{sizeSays};
-
-pub enum SizeAnswer {
-    // The number of the first "no".
-    Refused(u32),
-    // The lengths of DC and AC.
-    Sized(usize, usize),
-}
+ghost use Rattle.answers.specs.Size.{sizeSays};
+use answers::SizeAnswer;
 
 // Of one plane.
 pub fn plane_size(stride: usize) -> SizeAnswer

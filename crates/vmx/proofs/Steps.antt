@@ -8,7 +8,7 @@ use Rattle.calls.specs.Arguments.{Settings, eight, ten, Call, onePlane, oneSlic
 use Rattle.slice.specs.Calls.{Coded}
 use Rattle.encplane.specs.Coding.{settings, plane}
 use Rattle.encslice.specs.SliceCoding.{rows}
-use Rattle.encoder.specs.Answers.{buffers, positions}
+use Rattle.answers.specs.Streams.{buffers, positions}
 use Rattle.plane_outs.specs.Planes.{codedAs}
 use Rattle.vmx.proofs.coding.vmx_encode_plane8.Reads as encode-plane8
 use Rattle.vmx.proofs.coding.vmx_encode_plane10.Reads as encode-plane10

@@ -1,9 +1,9 @@
 -- `plane_outs::coded_out`.
 use borrow.Author.Needs.{needs}
 use mathlib.Core.Path.{_≡_, sym, ap}
-use Rattle.encoder.specs.Answers.{answered}
-use Rattle.encoder.specs.declared.CodeAnswer.{CodeAnswer}
-use Rattle.encoder.specs.declared.CodeAnswer.the-variants as code
+use Rattle.answers.specs.Code.{answered}
+use Rattle.answers.specs.declared.CodeAnswer.{CodeAnswer}
+use Rattle.answers.specs.declared.CodeAnswer.the-variants as code
 use Rattle.plane_outs.proofs.coded_out.Statement.{statement}
 use Rattle.plane_outs.proofs.coded_out.Tie as tie
 

@@ -1,9 +1,9 @@
 -- `plane_outs::read_out`.
 use borrow.Author.Needs.{needs}
 use mathlib.Core.Path.{_≡_, sym, ap}
-use Rattle.decoder.specs.Answers.{answered}
-use Rattle.decoder.specs.declared.ReadAnswer.{ReadAnswer}
-use Rattle.decoder.specs.declared.ReadAnswer.the-variants as answer
+use Rattle.answers.specs.Read.{answered}
+use Rattle.answers.specs.declared.ReadAnswer.{ReadAnswer}
+use Rattle.answers.specs.declared.ReadAnswer.the-variants as answer
 use Rattle.plane_outs.proofs.read_out.Statement.{statement}
 use Rattle.plane_outs.proofs.read_out.Tie as tie
 

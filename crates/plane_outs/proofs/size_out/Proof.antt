@@ -1,8 +1,8 @@
 -- `plane_outs::size_out`.
 use borrow.Author.Needs.{needs}
 use mathlib.Core.Path.{_≡_, sym, ap}
-use Rattle.sizes.specs.Answers.{sizeSays}
-use Rattle.sizes.specs.declared.SizeAnswer.the-variants as size
+use Rattle.answers.specs.Size.{sizeSays}
+use Rattle.answers.specs.declared.SizeAnswer.the-variants as size
 use Rattle.plane_outs.proofs.size_out.Statement.{statement}
 use Rattle.plane_outs.proofs.size_out.Tie as tie
 

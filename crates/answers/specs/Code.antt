@@ -1,16 +1,10 @@
 -- The answers of the coding calls. Document 01, 'The questions before any work'.
 use mathlib.Core.List.{List}
 use Prim.Native.Nat.{ℕ}
-use Rattle.calls.specs.Arguments.{PerStream, Buffers}
 use Rattle.slice.specs.Calls.{Coded}
-use Rattle.encoder.specs.declared.CodeAnswer.{CodeAnswer}
-use Rattle.encoder.specs.declared.CodeAnswer.the-variants.{Refused, Accepted}
-
-abbrev pub buffers : List ℕ → List ℕ → Buffers
-buffers dcs acs = record { dcBytes = dcs; acBytes = acs }
-
-abbrev pub positions : ℕ → ℕ → PerStream
-positions d a = record { dc = d; ac = a }
+use Rattle.answers.specs.Streams.{buffers, positions}
+use Rattle.answers.specs.declared.CodeAnswer.{CodeAnswer}
+use Rattle.answers.specs.declared.CodeAnswer.the-variants.{Refused, Accepted}
 
 -- document 01's number and positions of an answer, with both buffers as they are now
 abbrev pub answered : CodeAnswer → List ℕ → List ℕ → Coded

@@ -1,10 +1,10 @@
 -- The answers of the reading calls. Document 01, 'Plane and slice' and 'The questions before any work'.
-use mathlib.Core.List.{List, [], _∷_}
+use mathlib.Core.List.{List}
 use Prim.Native.Nat.{ℕ}
 use Rattle.slice.specs.Calls.{Decoded}
-use Rattle.judge.specs.Good.{positions}
-use Rattle.decoder.specs.declared.ReadAnswer.{ReadAnswer}
-use Rattle.decoder.specs.declared.ReadAnswer.the-variants.{Refused, Accepted}
+use Rattle.answers.specs.Streams.{positions}
+use Rattle.answers.specs.declared.ReadAnswer.{ReadAnswer}
+use Rattle.answers.specs.declared.ReadAnswer.the-variants.{Refused, Accepted}
 
 -- document 01's number and positions of an answer, with the rows of every lent plane as they are now
 abbrev pub answered : ReadAnswer → List (List ℕ) → Decoded

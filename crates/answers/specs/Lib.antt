@@ -1,0 +1,4 @@
+pub mod Streams
+pub mod Code
+pub mod Read
+pub mod Size
