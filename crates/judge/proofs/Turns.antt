@@ -2,9 +2,11 @@
 use mathlib.Core.Path.{_≡_, refl, sym, ap, _∙_}
 use mathlib.Core.Bool.{Bool, true, false}
 use mathlib.Core.List.{List, [], _∷_}
-use Prim.Native.Nat.{ℕ, _+_, _*_, _≤_, _<_}
+use Prim.Native.Nat.{ℕ, _+_, _-_, _*_, _/_, _^_, _≤_, _<_}
 use native.Mathlib.Numerals.{add-one}
 use native.Mathlib.Omega.{arith}
+use mir.Syntax.{w8, w64}
+use mir.Val.{Fits}
 use lib.ListN.{length, take, drop, getD, length-drop}
 use lib.Seq.{drop-cons, length-take-le, getD-take}
 use Rattle.ask.specs.Ask.{Answer, refused, accepted}
@@ -66,6 +68,30 @@ module _ (read : ℕ → ℕ → Answer ℕ) (ws : List ℕ) (at k x : ℕ) (i :
         by-answer : (y : Answer ℕ) → AnswerTo Unit x (x + 1720320) y → accepted q ≡ y → q ≤ x + 1720320
         by-answer (refused n) o d = absurd (let z : _≡_ {A = ℕ} 0 1 = cc in omega arith)
         by-answer (accepted r) o d = let z : q ≡ r = cc in omega (arith, o .1)
+
+-- the numbers of a loop over at most four planes
+module _ {k count : ℕ} (h : k < count) where
+  pub one-more : k + 1 ≤ count
+  one-more = omega arith
+
+  pub fewer-left : count - (k + 1) < count - k
+  fewer-left = omega arith
+
+  module _ (most : count ≤ 4) where
+    pub below-four : k < 4
+    below-four = omega arith
+
+    pub turn-fits : Fits w64 (k + 1)
+    turn-fits = omega arith
+
+    pub still-near : {at x : ℕ} → at < 2 ^ 30 → x ≤ at + 1720320 * k → x < 2 ^ 31
+    still-near b n = omega arith
+
+pub of-byte : {x : ℕ} → Fits w8 x → x < 256
+of-byte h = omega arith
+
+pub columns-of : {w g : ℕ} → w ≡ g → g ≤ 7680 → w / 8 ≤ 960
+columns-of e g = omega arith
 
 -- the first planes of four
 module _ (s0 s1 s2 s3 count : ℕ) (most : count ≤ 4) where

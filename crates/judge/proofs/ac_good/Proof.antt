@@ -9,7 +9,7 @@ use Rattle.acthrough.specs.Through.{endSays}
 use Rattle.acthrough.specs.declared.PlaneEnd.the-variants as plane
 use Rattle.judge.specs.Good.{acPlane}
 use Rattle.judge.proofs.Clean.{ac-spans, ac-clean}
-use Rattle.judge.proofs.Turns.{clean-good, Turns, turns-start, turns-over, turns-bad, turns-next, first-length, first-at}
+use Rattle.judge.proofs.Turns.{clean-good, Turns, turns-start, turns-over, turns-bad, turns-next, one-more, fewer-left, below-four, turn-fits, still-near, of-byte, columns-of, first-length, first-at}
 use Rattle.judge.proofs.ac_good.Statement.{statement}
 use Rattle.judge.proofs.ac_good.Tie as tie
 
@@ -20,14 +20,14 @@ abbrev μ-loop : tie.MeasureT-loop
 μ-loop ac a count stride0 stride1 stride2 stride3 at₀ k₀ at k = count - k
 
 no-six-zeros-requires : tie.Need-no-six-zeros-requires Inv-loop μ-loop
-no-six-zeros-requires c κs = search needs
+no-six-zeros-requires c κs = tt
 
 returns : tie.Need-returns Inv-loop μ-loop
 returns c =
     let n = c .before in
     let a = n .before .before .args in
     sym
-    (clean-good (acPlane (a .ac .now)) (a .a) (ac-clean (a .ac .now) (λ j. omega (arith, n .before .shared-slice-known .given j)) (a .a) (sym (n .no-six-zeros .ensures) ∙ c .if1 .taken))
+    (clean-good (acPlane (a .ac .now)) (a .a) (ac-clean (a .ac .now) (λ j. of-byte (n .before .shared-slice-known .given j)) (a .a) (sym (n .no-six-zeros .ensures) ∙ c .if1 .taken))
     (take (a .count) (a .stride0 ∷ a .stride1 ∷ a .stride2 ∷ a .stride3 ∷ [])) (a .a) (omega arith))
 
 loop-holds : tie.Need-loop-holds Inv-loop μ-loop
@@ -36,13 +36,13 @@ loop-holds c =
     (omega arith, turns-start (acPlane (a .ac .now)) (take (a .count) (a .stride0 ∷ a .stride1 ∷ a .stride2 ∷ a .stride3 ∷ [])) (a .a))
 
 stride-at-requires : tie.Need-stride-at-requires Inv-loop μ-loop
-stride-at-requires c κs = let s = c .before .before .before .before .before in omega (arith, s .pre .1)
+stride-at-requires c κs = let s = c .before .before .before .before .before in below-four (c .loop-test .taken) (s .pre .1)
 
 through-ac-requires : tie.Need-through-ac-requires Inv-loop μ-loop
 through-ac-requires c κs =
     let l = c .before .before .loop in
     let s = c .before .before .before .before .before .before in
-    (omega (arith, l .inv .1 .near, s .pre .0, s .pre .1), omega (arith, s .pre .2 (l .k) (c .before .loop-test .taken), c .stride-at .ensures))
+    (still-near (c .before .loop-test .taken) (s .pre .1) (s .pre .0) (l .inv .1 .near), columns-of (c .stride-at .ensures) (s .pre .2 (l .k) (c .before .loop-test .taken)))
 
 enum-known-e : tie.Need-enum-known-e Inv-loop μ-loop
 enum-known-e c = search needs
@@ -57,7 +57,7 @@ returns-2 c =
     let l = w .before .before .loop in
     let s = w .before .before .before .before .before .before in
     let a = s .args in
-    let f : t .result ≡ plane.Refused (c .before .n .given .0 .0) = cc in
+    let f : t .result ≡ plane.Refused (c .before .n .given .0 .0) = c .before .n .given .1 in
     sym
     (turns-bad (acPlane (a .ac .now)) (take (a .count) (a .stride0 ∷ a .stride1 ∷ a .stride2 ∷ a .stride3 ∷ [])) (a .a) (l .k) (l .at) (l .inv .1) (w .stride-at .result)
     (omega (arith, first-length (a .stride0) (a .stride1) (a .stride2) (a .stride3) (a .count) (s .pre .1), w .before .loop-test .taken))
@@ -65,10 +65,12 @@ returns-2 c =
     (sym (ap endSays f) ∙ t .ensures))
 
 add-k : tie.Need-add-k Inv-loop μ-loop
-add-k c = omega arith
+add-k c =
+    let w = c .before .before .before .before in
+    turn-fits (w .before .loop-test .taken) (w .before .before .before .before .before .before .pre .1)
 
 loop-less : tie.Need-loop-less Inv-loop μ-loop
-loop-less c = omega arith
+loop-less c = fewer-left (c .before .before .before .before .before .loop-test .taken)
 
 loop-again : tie.Need-loop-again Inv-loop μ-loop
 loop-again c =
@@ -77,8 +79,8 @@ loop-again c =
     let l = w .before .before .loop in
     let s = w .before .before .before .before .before .before in
     let a = s .args in
-    let f : t .result ≡ plane.At (c .before .e .given .0 .0) = cc in (
-      omega arith,
+    let f : t .result ≡ plane.At (c .before .e .given .0 .0) = c .before .e .given .1 in (
+      one-more (w .before .loop-test .taken),
       turns-next (acPlane (a .ac .now)) (take (a .count) (a .stride0 ∷ a .stride1 ∷ a .stride2 ∷ a .stride3 ∷ [])) (a .a) (l .k) (l .at) (l .inv .1) (w .stride-at .result)
           (omega (arith, first-length (a .stride0) (a .stride1) (a .stride2) (a .stride3) (a .count) (s .pre .1), w .before .loop-test .taken))
           (first-at (a .stride0) (a .stride1) (a .stride2) (a .stride3) (a .count) (s .pre .1) (l .k) (w .stride-at .result) (w .before .loop-test .taken) (w .stride-at .ensures))
