@@ -28,7 +28,7 @@ extern "C" {
 #define VMX_NO_SHIFT 2      /* DC shift 0 to 15? */
 #define VMX_NO_PLANE 3      /* plane place 0 to 3, plane count 1 to 4? */
 #define VMX_NO_STRIDE 4     /* stride a multiple of 8 from 8 to 7,680? */
-#define VMX_NO_ROWS 5       /* rows long enough? (shown rows: up to the slice's end in both pictures) */
+#define VMX_NO_ROWS 5       /* rows, or a table, long enough? (shown rows: up to the slice's end in both pictures) */
 #define VMX_NO_ROOM 6       /* room behind the start for the size call's lengths (builder: for what it writes)? */
 #define VMX_NO_START 7      /* starts at most 16,777,215, streams read within 245,760 (DC) and 430,080 (AC) bytes? */
 #define VMX_NO_CODE 8       /* at most 54 zeros behind the head of every code reached? */
@@ -145,6 +145,15 @@ size_t vmx_preview_height(size_t height, uint32_t interlaced);
  * Number: 9, 10, 11, 2, 12, then stream by stream 10, 13, 10. */
 uint32_t vmx_parse(size_t width, size_t height, const uint8_t *frame, size_t frame_len, uint32_t *interlaced,
                    uint32_t *quality, uint32_t *dc_shift, size_t *header_len, uint32_t *ac);
+
+/* The same in one call, and where all streams of the frame lie: views[2 * i] and views[2 * i + 1] are offset and length of
+ * the DC stream of slice i, views[2 * (slices + i)] and the number behind it those of its AC stream (0 and 0 where the
+ * frame has none), for slices as vmx_layout says. So 4 * slices numbers are set, at most VMX_VIEWS; those behind them stay.
+ * Number: 5 (views_len at least 4 * slices?), then those of vmx_parse. Refused: all views stay as they were. */
+#define VMX_VIEWS 1080
+uint32_t vmx_streams(size_t width, size_t height, const uint8_t *frame, size_t frame_len, uint32_t *views,
+                     size_t views_len, uint32_t *interlaced, uint32_t *quality, uint32_t *dc_shift, size_t *header_len,
+                     uint32_t *ac);
 
 /* Where the DC stream (ac 0) or the AC stream (ac any other number) of a slice lies in the frame: frame[offset] is its
  * first byte. On refusal *offset and *len are 0.

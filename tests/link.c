@@ -164,7 +164,7 @@ static void frame(void) {
                                     2, 0, 0, 0, 0x80, 0x80, 1, 0, 0, 0, 9};    /* AC */
     uint8_t out[ROOM], before[ROOM];
     size_t slices, dc, ac, next, at = 0, header_len, offset, len;
-    uint32_t turn, interlaced, quality, shift, there;
+    uint32_t turn, interlaced, quality, shift, there, views[VMX_VIEWS];
     memset(out, 0xAA, sizeof out);
 
     check(vmx_frame_start(WIDTH, HEIGHT, 0, 36, 4, out, ROOM, &slices, &dc, &ac, &turn, &next, &at) == VMX_OK, "start");
@@ -192,6 +192,18 @@ static void frame(void) {
     check(vmx_parse(WIDTH, HEIGHT, out, at - 1, &interlaced, &quality, &shift, &header_len, &there) == VMX_NO_BYTES,
           "a byte short");
     check(quality == 36 && header_len == 5, "kept on refusal");
+
+    views[0] = views[8] = 99;
+    check(vmx_streams(WIDTH, HEIGHT, out, at, views, 7, &interlaced, &quality, &shift, &header_len, &there) == VMX_NO_ROWS,
+          "no table for two slices");
+    check(vmx_streams(WIDTH, HEIGHT, out, at - 1, views, VMX_VIEWS, &interlaced, &quality, &shift, &header_len, &there) ==
+              VMX_NO_BYTES,
+          "a byte short");
+    check(views[0] == 99, "kept on refusal");
+    check(vmx_streams(WIDTH, HEIGHT, out, at, views, VMX_VIEWS, &interlaced, &quality, &shift, &header_len, &there) == VMX_OK,
+          "all streams");
+    check(views[2] == 14 && views[3] == sizeof dc1 && views[4] == 21 && views[5] == sizeof ac0 && views[8] == 99,
+          "their places");
 
     at = ROOM - 4;
     check(vmx_frame_start(WIDTH, HEIGHT, 0, 36, 4, out, ROOM, &slices, &dc, &ac, &turn, &next, &at) == VMX_NO_ROOM,

@@ -13,6 +13,10 @@ fn flag(x: bool) -> u8 {
     if x { 1 } else { 0 }
 }
 
+fn number(x: u8) -> u32 {
+    x as u32
+}
+
 fn kind_of(ac: bool) -> Kind {
     if ac { Kind::Ac } else { Kind::Dc }
 }
@@ -74,11 +78,49 @@ fn place(b: &[u8; 148], width: usize, height: usize, frame: &[u8]) -> bool {
     }
 }
 
+// A view in a table of all views.
+fn same_view(b: &[u8; 148], view: usize, table: &[u32; 1084]) -> bool {
+    if 541 < view {
+        return false;
+    }
+    let i = 2 * view;
+    table[i] == number(b[14]) && table[i + 1] == number(b[15])
+}
+
+// The place asked for in the table: 0 and 0 where the frame has no AC. Of a slice that is not there it says nothing.
+fn in_table(b: &[u8; 148], slices: usize, table: &[u32; 1084]) -> bool {
+    let slice = wide(b[6]);
+    if 270 < slices {
+        return false;
+    }
+    if slices <= slice {
+        return true;
+    }
+    if b[5] == 1 {
+        return same_view(b, slices + slice, table);
+    }
+    same_view(b, slice, table)
+}
+
+// Header and table, or the refusal.
+fn tabled(b: &[u8; 148], width: usize, height: usize, frame: &[u8]) -> bool {
+    let mut table = [7u32; 1084];
+    match views::all_views(width, height, frame, &mut table) {
+        FrameAnswer::Refused(x) => x == refusal(b[7]) && table[0] == 7,
+        FrameAnswer::Frame(h) => {
+            same_header(b, h.interlaced, h.quality, h.dc_shift, h.header_len, h.ac)
+                && in_table(b, height / 16 + (height % 16 + 15) / 16, &table)
+        }
+    }
+}
+
 fn holds(b: &[u8; 148]) -> bool {
     let width = size(b, 0);
     let height = size(b, 2);
     let frame = part(b, 20, wide(b[4]));
-    header(b, width, height, frame) && place(b, width, height, frame)
+    header(b, width, height, frame)
+        && place(b, width, height, frame)
+        && tabled(b, width, height, frame)
 }
 
 // Reads and compares one record; false where there is none.

@@ -6,10 +6,13 @@ use builder::Builder;
 use builder::Shift;
 use layout::Layout;
 ghost use mathlib.Core.Path.{_≡_};
+ghost use lib.ListN.{length};
 ghost use Rattle.ask.specs.Ask.{numberIn};
 ghost use Rattle.layout.specs.Geometry.{Geometry, layoutOf, interlaceCapable, imageRowOf, previewWidth, previewHeight};
 ghost use Rattle.header.specs.Header.{FrameRead};
 ghost use Rattle.parser.specs.Frame.{parseOf, View, viewOf};
+ghost use Rattle.bothwalks.specs.Table.{allViews, tableLeft};
+ghost use Rattle.views.specs.Table.{tabledOf};
 ghost use Rattle.tables.specs.Quality.{qualityPreset};
 ghost use Rattle.builder.specs.Build.{Built, headerOf};
 ghost use Rattle.frameput.specs.Put.{streamOf};
@@ -99,6 +102,26 @@ pub extern "C" fn vmx_parse(
     ensures { λ r. ⌜ (r ≡ numberIn (parseOf width height (now (frame .entry)))) × (now (interlaced .exit) ≡ left (parseOf width height (now (frame .entry))) (now (interlaced .entry)) (λ (f : FrameRead). flagOf (f .interlaced))) × (now (quality .exit) ≡ left (parseOf width height (now (frame .entry))) (now (quality .entry)) (λ (f : FrameRead). f .quality)) × (now («dc_shift» .exit) ≡ left (parseOf width height (now (frame .entry))) (now («dc_shift» .entry)) (λ (f : FrameRead). f .dcShift)) × (now («header_len» .exit) ≡ left (parseOf width height (now (frame .entry))) (now («header_len» .entry)) (λ (f : FrameRead). f .headerLen)) × (now (ac .exit) ≡ left (parseOf width height (now (frame .entry))) (now (ac .entry)) (λ (f : FrameRead). flagOf (f .acThere))) ⌝ }
 {
     let r = parser::parse(width, height, frame);
+    frame_outs::frame_out(r, interlaced, quality, dc_shift, header_len, ac)
+}
+
+// The same, and where all streams of the frame lie: two numbers each, offset and length, the DC streams of all slices in
+// order, then the AC streams of all slices; 0 and 0 for each AC stream of a frame without.
+#[no_mangle]
+pub extern "C" fn vmx_streams(
+    width: usize,
+    height: usize,
+    frame: &[u8],
+    views: &mut [u32],
+    interlaced: &mut u32,
+    quality: &mut u32,
+    dc_shift: &mut u32,
+    header_len: &mut usize,
+    ac: &mut u32,
+) -> u32
+    ensures { λ r. ⌜ (r ≡ numberIn (tabledOf width height (now (frame .entry)) (length (now (views .entry))))) × (now (views .exit) ≡ tableLeft (tabledOf width height (now (frame .entry)) (length (now (views .entry)))) (now (views .entry)) (allViews width height (now (frame .entry)))) × (now (interlaced .exit) ≡ left (tabledOf width height (now (frame .entry)) (length (now (views .entry)))) (now (interlaced .entry)) (λ (f : FrameRead). flagOf (f .interlaced))) × (now (quality .exit) ≡ left (tabledOf width height (now (frame .entry)) (length (now (views .entry)))) (now (quality .entry)) (λ (f : FrameRead). f .quality)) × (now («dc_shift» .exit) ≡ left (tabledOf width height (now (frame .entry)) (length (now (views .entry)))) (now («dc_shift» .entry)) (λ (f : FrameRead). f .dcShift)) × (now («header_len» .exit) ≡ left (tabledOf width height (now (frame .entry)) (length (now (views .entry)))) (now («header_len» .entry)) (λ (f : FrameRead). f .headerLen)) × (now (ac .exit) ≡ left (tabledOf width height (now (frame .entry)) (length (now (views .entry)))) (now (ac .entry)) (λ (f : FrameRead). flagOf (f .acThere))) ⌝ }
+{
+    let r = views::all_views(width, height, frame, views);
     frame_outs::frame_out(r, interlaced, quality, dc_shift, header_len, ac)
 }
 

@@ -1,0 +1,17 @@
+-- `bothwalks::walk_large`.
+use borrow.Author.Needs.{needs}
+use native.Mathlib.Omega.{arith}
+use mathlib.Core.Path.{refl}
+use Rattle.header.proofs.Laws.{legal}
+use Rattle.bothwalks.proofs.Laws.{few}
+use Rattle.bothwalks.proofs.walk_large.Statement.{statement}
+use Rattle.bothwalks.proofs.walk_large.Tie as tie
+
+walk-requires : tie.Need-walk-requires
+walk-requires c κs =
+    let s = c .before .before .before .before in
+    let a = s .args in
+    (s .pre, omega (arith, few (a .height) refl (legal (a .width) (a .height) (a .frame .now) (s .pre .yes) .high)))
+
+pub walk-large-spec : {M : Type 1} → statement M
+walk-large-spec = tie.close (tie.spec (λ c. search needs) walk-requires (λ c. search needs) (λ c. search needs))

@@ -1,0 +1,66 @@
+// The walks over all streams of a frame, DC and AC, with the views stored in a lent table.
+use streams::Place;
+ghost use Prim.Native.Nat.{_*_, _≤_};
+ghost use lib.ListN.{length};
+ghost use Rattle.layout.specs.Geometry.{sliceCount};
+ghost use Rattle.bothwalks.specs.Views.{walkedSays, Tabled, Walkable};
+
+// What a walk over all streams of a frame found.
+pub enum Walked {
+    Both,
+    DcOnly,
+    Refused(u32),
+}
+
+// Walks over all streams of a frame whose header is legal.
+fn walk(width: usize, height: usize, frame: &[u8], table: &mut [u32], held: &mut [u32]) -> Walked
+    requires { ⌜ (Walkable width height (now frame) (now table)) × (4 * sliceCount height ≤ length (now held)) ⌝ }
+    ensures { λ r. ⌜ Tabled width height (now (frame .entry)) (now (table .entry)) (now (table .exit)) (walkedSays height (now (frame .entry)) r) ⌝ }
+{
+    let slices = layout::slice_count(height);
+    let at = header::format_at(frame);
+    let max_dc_len = layout::max_dc_len(width);
+    match viewwalk::walk_views(frame, slices, max_dc_len, at + 3, 0, table, held) {
+        Place::Refused(x) => Walked::Refused(x),
+        Place::At(q) => {
+            if q < frame.len() {
+                let max_ac_len = layout::max_ac_len(width);
+                match viewwalk::walk_views(frame, slices, max_ac_len, q, slices, table, held) {
+                    Place::Refused(x) => Walked::Refused(x),
+                    Place::At(_) => Walked::Both,
+                }
+            } else {
+                viewwalk::table::no_views(table, 2 * slices, slices);
+                Walked::DcOnly
+            }
+        }
+    }
+}
+
+// The same, with a place to hold what stands in the table: of a frame of up to 1,088 rows, or of any.
+fn walk_small(width: usize, height: usize, frame: &[u8], table: &mut [u32]) -> Walked
+    requires { ⌜ (Walkable width height (now frame) (now table)) × (sliceCount height ≤ 68) ⌝ }
+    ensures { λ r. ⌜ Tabled width height (now (frame .entry)) (now (table .entry)) (now (table .exit)) (walkedSays height (now (frame .entry)) r) ⌝ }
+{
+    let mut held = [0u32; 272];
+    walk(width, height, frame, table, &mut held)
+}
+
+fn walk_large(width: usize, height: usize, frame: &[u8], table: &mut [u32]) -> Walked
+    requires { ⌜ Walkable width height (now frame) (now table) ⌝ }
+    ensures { λ r. ⌜ Tabled width height (now (frame .entry)) (now (table .entry)) (now (table .exit)) (walkedSays height (now (frame .entry)) r) ⌝ }
+{
+    let mut held = [0u32; 1080];
+    walk(width, height, frame, table, &mut held)
+}
+
+// Clearing the place takes a part of the time that the walk takes: small frames have a small one.
+pub fn walk_any(width: usize, height: usize, frame: &[u8], table: &mut [u32]) -> Walked
+    requires { ⌜ Walkable width height (now frame) (now table) ⌝ }
+    ensures { λ r. ⌜ Tabled width height (now (frame .entry)) (now (table .entry)) (now (table .exit)) (walkedSays height (now (frame .entry)) r) ⌝ }
+{
+    if height <= 1088 {
+        return walk_small(width, height, frame, table);
+    }
+    walk_large(width, height, frame, table)
+}

@@ -1,0 +1,127 @@
+-- `viewwalk::walk_views`: behind each stream the table holds the views so far, and what stood there is held.
+use borrow.Author.Needs.{needs}
+use mathlib.Core.Path.{_≡_, refl, sym, ap, _∙_}
+use Prim.Native.Nat.{ℕ, _+_, _-_, _*_, _≤_}
+use native.Mathlib.Omega.{arith}
+use lib.ListN.{length}
+use Rattle.streams.specs.Views.{placeSays}
+use Rattle.streams.specs.declared.Place.the-variants as place
+use Rattle.streams.proofs.Laws.{place-told, never, part-before}
+use Rattle.viewwalk.proofs.Walk.{Walking, begins, goes-on, stops, undone, ends, stores, keeps, one-within}
+use Rattle.viewwalk.proofs.walk_views.Statement.{statement}
+use Rattle.viewwalk.proofs.walk_views.Tie as tie
+
+abbrev Inv-loop : tie.InvT-loop
+Inv-loop f n limit p from table₀ held₀ at₀ k₀ table held at k = Walking f n limit p from table₀ held₀ table held at k
+
+abbrev μ-loop : tie.MeasureT-loop
+μ-loop f n limit p from table₀ held₀ at₀ k₀ table held at k = n - k
+
+loop-holds : tie.Need-loop-holds Inv-loop μ-loop
+loop-holds c =
+    let s = c .before .before .before in
+    let a = s .args in
+    begins (a .f .now) (a .n) (a .limit) (a .p) (a .from) (a .table .now) (a .held .now) (s .pre)
+
+one-stream-requires : tie.Need-one-stream-requires Inv-loop μ-loop
+one-stream-requires c κs = search needs
+
+hold-view-requires : tie.Need-hold-view-requires Inv-loop μ-loop
+hold-view-requires c κs = (omega arith, omega arith)
+
+add-put-view : tie.Need-add-put-view Inv-loop μ-loop
+add-put-view c = omega arith
+
+cast-put-view : tie.Need-cast-put-view Inv-loop μ-loop
+cast-put-view c = omega arith
+
+add-put-view-2 : tie.Need-add-put-view-2 Inv-loop μ-loop
+add-put-view-2 c = omega arith
+
+sub-put-view : tie.Need-sub-put-view Inv-loop μ-loop
+sub-put-view c =
+    let k = c .before .before .before .before .before .before .before in
+    let l = k .before .before .before .before in
+    let a = l .before .before .before .before .args in
+    part-before (a .limit) (a .f .now) (l .loop .at) (place-told (k .before .before .one-stream .ensures) (k .q .given .1))
+
+cast-put-view-2 : tie.Need-cast-put-view-2 Inv-loop μ-loop
+cast-put-view-2 c =
+    let k = c .before .before .before .before .before .before .before in
+    let l = k .before .before .before .before in
+    let s = l .before .before .before .before in
+    let a = s .args in
+    omega (arith, s .pre .short, one-within (a .limit) (a .f .now) (l .loop .at) (place-told (k .before .before .one-stream .ensures) (k .q .given .1)))
+
+put-view-requires : tie.Need-put-view-requires Inv-loop μ-loop
+put-view-requires c κs = omega arith
+
+put-back-requires : tie.Need-put-back-requires Inv-loop μ-loop
+put-back-requires c κs = (omega arith, omega arith)
+
+returns : tie.Need-returns Inv-loop μ-loop
+returns c =
+    let k = c .before .before .before .before .before .before in
+    let l = k .before .before .before .before in
+    let s = l .before .before .before .before in
+    let a = s .args in
+    let w = l .loop .inv in
+    let no = stops (a .f .now) (a .n) (a .limit) (a .p) (a .from) (a .table .now) (a .held .now) (s .pre) w (omega arith) (place-told (k .before .before .one-stream .ensures) (k .x .given .1)) in (
+      sym no,
+      rw no
+          (undone (a .f .now) (a .n) (a .limit) (a .p) (a .from) (a .table .now) (a .held .now) (s .pre) w (omega arith) refl (c .before .before .put-back .ensures)),
+      λ q e. absurd (never (sym no ∙ e)),
+    )
+
+loop-again : tie.Need-loop-again Inv-loop μ-loop
+loop-again c =
+    let v = c .before .before in
+    let h = v .before .before .before .before in
+    let k = h .before .before .before .before in
+    let l = k .before .before .before .before in
+    let s = l .before .before .before .before in
+    let a = s .args in
+    goes-on (a .f .now) (a .n) (a .limit) (a .p) (a .from) (a .table .now) (a .held .now) (s .pre) (l .loop .inv) (omega arith) refl
+    (place-told (k .before .before .one-stream .ensures) (k .q .given .1)) (h .hold-view .ensures) (v .put-view .ensures)
+
+returns-2 : tie.Need-returns-2 Inv-loop μ-loop
+returns-2 c =
+    let l = c .before in
+    let s = l .before .before .before .before in
+    let a = s .args in
+    let w = l .loop .inv in
+    let done : a .n ≤ l .loop .k = omega arith in (
+      sym (ends (a .f .now) (a .n) (a .limit) (a .p) (a .from) (a .table .now) (a .held .now) (s .pre) w done),
+      stores (a .f .now) (a .n) (a .limit) (a .p) (a .from) (a .table .now) (a .held .now) (s .pre) w done,
+      λ q e. keeps (a .f .now) (a .n) (a .limit) (a .p) (a .from) (a .table .now) (a .held .now) (s .pre) w done,
+    )
+
+pub walk-views-spec : {M : Type 1} → statement M
+walk-views-spec =
+    tie.close
+    (tie.spec
+    Inv-loop
+    μ-loop
+    loop-holds
+    (λ c. search needs)
+    (λ c. search needs)
+    one-stream-requires
+    (λ c. search needs)
+    hold-view-requires
+    add-put-view
+    cast-put-view
+    add-put-view-2
+    sub-put-view
+    cast-put-view-2
+    put-view-requires
+    (λ c. search needs)
+    put-back-requires
+    (λ c. search needs)
+    (λ c. search needs)
+    returns
+    (λ c. search needs)
+    (λ c. search needs)
+    loop-again
+    (λ c. search needs)
+    (λ c. search needs)
+    returns-2)

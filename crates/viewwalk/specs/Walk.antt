@@ -1,0 +1,20 @@
+-- What a walk that stores views asks, and what it leaves in the table.
+use mathlib.Core.List.{List}
+use Prim.Native.Nat.{ℕ, _+_, _*_, _≤_}
+use lib.ListN.{length, take}
+use Rattle.bits.specs.Lay.{lay}
+use Rattle.ask.specs.Ask.{Answer, refused, accepted}
+
+-- what a walk over the n streams at p asks: it stores behind `from` views, and every offset fits 32 bits
+pub record Walks (f : List ℕ) (n limit p from : ℕ) (table held : List ℕ) : Type 0 where
+  pub inside : p ≤ length f
+  pub short : limit ≤ 430080
+  pub small : p ≤ 5 + from * 430084
+  pub slices : from + n ≤ 540
+  pub room : 2 * (from + n) ≤ length table
+  pub holds : 2 * (from + n) ≤ length held
+
+-- a walk stores its views behind `from` others, in whose places stood what is held; where it is refused all that is put back
+abbrev pub walkLeft : Answer ℕ → List ℕ → List ℕ → ℕ → List ℕ → List ℕ
+walkLeft (refused n) table held from views = lay table 0 (take (2 * from) held)
+walkLeft (accepted q) table held from views = lay table (2 * from) views
