@@ -34,8 +34,9 @@ extern "C" {
     fn vmx_preview_width(width: usize) -> usize;
     fn vmx_preview_height(height: usize, interlaced: u32) -> usize;
     fn vmx_quality_preset(quality: u8, kept: ByteMut, preset: At);
-    fn vmx_parse(width: usize, height: usize, frame: Byte, frame_len: usize, interlaced: *mut u32, quality: *mut u32,
-        dc_shift: *mut u32, header_len: At, ac: *mut u32) -> u32;
+    fn vmx_streams(width: usize, height: usize, frame: Byte, frame_len: usize, views: *mut u32, views_len: usize,
+        interlaced: *mut u32, quality: *mut u32, dc_shift: *mut u32, header_len: At, ac: *mut u32) -> u32;
+    #[cfg(test)]
     fn vmx_stream(width: usize, height: usize, frame: Byte, frame_len: usize, ac: u32, slice: usize, offset: At,
         len: At) -> u32;
     fn vmx_frame_start(width: usize, height: usize, interlaced: u32, quality: u8, dc_shift: u32, out: ByteMut,
@@ -154,15 +155,18 @@ pub struct Header {
     pub ac: u32,
 }
 
-pub fn parse(width: usize, height: usize, frame: &[u8]) -> Result<Header, Refused> {
+/// The header, and offset and length of each stream in `views`: DC streams first, then AC streams.
+pub fn streams(width: usize, height: usize, frame: &[u8], views: &mut [u32]) -> Result<Header, Refused> {
     let mut h = Header::default();
-    // SAFETY: the frame is a slice, the places are our own.
+    // SAFETY: the frame and the views are slices, the places are our own.
     verdict(unsafe {
-        vmx_parse(
+        vmx_streams(
             width,
             height,
             frame.as_ptr(),
             frame.len(),
+            views.as_mut_ptr(),
+            views.len(),
             &mut h.interlaced,
             &mut h.quality,
             &mut h.dc_shift,
@@ -173,6 +177,7 @@ pub fn parse(width: usize, height: usize, frame: &[u8]) -> Result<Header, Refuse
     Ok(h)
 }
 
+#[cfg(test)]
 pub fn stream(width: usize, height: usize, frame: &[u8], ac: bool, slice: usize) -> Result<(usize, usize), Refused> {
     let (mut offset, mut len) = (0, 0);
     // SAFETY: the frame is a slice, the places are our own.

@@ -3,6 +3,7 @@
 use crate::ffi;
 use crate::layout::{quality_preset, Layout};
 use crate::refused::{Refused, Verdict};
+use std::ops::Range;
 
 /// What a frame's header says.
 #[derive(Clone, Copy, Debug, PartialEq, Eq)]
@@ -22,11 +23,13 @@ pub struct FrameInfo {
 }
 
 /// A frame whose bytes were found whole: the streams of its slices are parts of them.
-#[derive(Clone, Copy, Debug)]
+#[derive(Clone, Debug)]
 pub struct Frame<'a> {
     layout: Layout,
     bytes: &'a [u8],
     info: FrameInfo,
+    /// Offset and length of each stream: those of all DC streams, then those of all AC streams.
+    views: Vec<u32>,
 }
 
 impl<'a> Frame<'a> {
@@ -44,7 +47,8 @@ impl<'a> Frame<'a> {
     /// # Ok::<(), Refused>(())
     /// ```
     pub fn parse(layout: &Layout, bytes: &'a [u8]) -> Result<Self, Refused> {
-        let h = ffi::parse(layout.width(), layout.height(), bytes)?;
+        let mut views = vec![0; 4 * layout.slices()];
+        let h = ffi::streams(layout.width(), layout.height(), bytes, &mut views)?;
         let quality = h.quality as u8;
         let info = FrameInfo {
             quality,
@@ -54,7 +58,7 @@ impl<'a> Frame<'a> {
             has_ac: h.ac != 0,
             header_len: h.header_len,
         };
-        Ok(Frame { layout: *layout, bytes, info })
+        Ok(Frame { layout: *layout, bytes, info, views })
     }
 
     /// What the header says.
@@ -79,19 +83,20 @@ impl<'a> Frame<'a> {
 
     /// Length of the frame's beginning that a preview needs: header and DC streams.
     pub fn preview_len(&self) -> usize {
-        match self.place(false, self.layout.slices() - 1) {
-            Ok((offset, len)) => offset + len,
-            Err(_) => self.bytes.len(),
-        }
+        self.place(self.layout.slices() - 1).end
     }
 
     fn stream(&self, ac: bool, slice: usize) -> Result<&'a [u8], Refused> {
-        let (offset, len) = self.place(ac, slice)?;
-        Ok(&self.bytes[offset..offset + len])
+        let slices = self.layout.slices();
+        if slice >= slices || ac && !self.info.has_ac {
+            return Err(Refused::Turn);
+        }
+        Ok(&self.bytes[self.place(if ac { slices + slice } else { slice })])
     }
 
-    fn place(&self, ac: bool, slice: usize) -> Result<(usize, usize), Refused> {
-        ffi::stream(self.layout.width(), self.layout.height(), self.bytes, ac, slice)
+    fn place(&self, view: usize) -> Range<usize> {
+        let (offset, len) = (self.views[2 * view] as usize, self.views[2 * view + 1] as usize);
+        offset..offset + len
     }
 }
 
@@ -231,6 +236,37 @@ mod tests {
             assert!(!preview.info().has_ac);
             assert_eq!((preview.dc(0), preview.ac(0)), (Ok(&dc[0][..]), Err(Refused::Turn)));
         }
+    }
+
+    /// The call for all streams hands out what the call for one does.
+    #[test]
+    fn each_stream_is_where_it_is_found_alone() {
+        let layout = Layout::new(18, 480).unwrap();
+        let slices = layout.slices();
+        let streams: Vec<Vec<u8>> = (0..slices).map(|s| vec![s as u8; s % 5]).collect();
+        for ac in [&streams[..], &[]] {
+            let mut out = Vec::new();
+            write(&mut out, &layout, true, 90, 2, &streams, ac).unwrap();
+            let frame = Frame::parse(&layout, &out).unwrap();
+            for (is_ac, s) in (0..slices + 2).flat_map(|s| [(false, s), (true, s)]) {
+                let alone = ffi::stream(18, 480, &out, is_ac, s).map(|(offset, len)| &out[offset..offset + len]);
+                assert_eq!(if is_ac { frame.ac(s) } else { frame.dc(s) }, alone, "slice {s}");
+            }
+        }
+    }
+
+    #[test]
+    fn a_refused_frame_leaves_the_views() {
+        let layout = two_slices();
+        let mut out = Vec::new();
+        write(&mut out, &layout, false, 90, 0, &[vec![1], vec![2]], &[vec![3], vec![4, 5]]).unwrap();
+        let mut views = vec![7; 9];
+        let (short, cut) = (&mut views[..7], &out[..out.len() - 1]);
+        assert_eq!(ffi::streams(16, 32, &out, short).err(), Some(Refused::Rows));
+        assert_eq!(ffi::streams(16, 32, cut, &mut views).err(), Some(Refused::Bytes));
+        assert_eq!(views, [7; 9]);
+        assert!(ffi::streams(16, 32, &out, &mut views).is_ok());
+        assert_eq!(views, [7, 1, 12, 1, 17, 1, 22, 2, 7]);
     }
 
     #[test]

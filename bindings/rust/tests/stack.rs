@@ -38,11 +38,20 @@ fn calls<S: Sample>(make: impl Fn(usize) -> S) {
     block_report(&mut report, STRIDE, &mut StreamReader::new(a)).unwrap();
 }
 
+/// The largest frame, with empty streams.
+fn frame() {
+    let layout = Layout::new(7680, 4320).unwrap();
+    let (mut out, empty) = (Vec::new(), vec![[0u8; 0]; layout.slices()]);
+    write(&mut out, &layout, false, 90, 0, &empty, &empty).unwrap();
+    assert!(Frame::parse(&layout, &out).unwrap().info().has_ac);
+}
+
 #[test]
 fn the_largest_planes_need_little() {
     let work = || {
         calls(|noise| 100 + noise as u8);
         calls(|noise| (400 + 4 * noise as u16) << 6);
+        frame();
     };
     thread::Builder::new().stack_size(STACK).spawn(work).unwrap().join().unwrap();
 }
