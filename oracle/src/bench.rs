@@ -341,8 +341,8 @@ fn alone<T: Made>(depth: &str) {
     row(&format!("block reported, {depth}"), 480, &mut [&mut ours, &mut theirs]);
 }
 
-/// A frame of 1,920 x 1,080 samples, 4:2:2: its header, the places of its 136 streams, and the frame built from them. The
-/// Rust's `parse` does the first two at once, and neither depends on its path.
+/// A frame of 1,920 x 1,080 samples, 4:2:2: its header, the places of its 136 streams and of one, and the frame built from
+/// them. The Rust's `parse` does the first three at once; nothing here depends on its path.
 fn frames() {
     const SIZE: (usize, usize) = (1920, 1080);
     const TIMES: usize = 20;
@@ -358,14 +358,17 @@ fn frames() {
     let mut rust = || assert_eq!(layout::stream_count(&layout, black_box(&frame)), Ok(2 * layout.slices()));
     let mut ours = || assert!(ours::layout::parse(SIZE.0, SIZE.1, black_box(&frame)).is_ok());
     frame_row("frame's header and lengths read, 1920 x 1080", &mut ours, &mut rust);
+    let mut table = vec![0; 4 * layout.slices()];
+    let mut ours = || assert!(ours::layout::streams(SIZE.0, SIZE.1, black_box(&frame), black_box(&mut table)).is_ok());
+    frame_row("header and all 136 streams of that frame found", &mut ours, &mut rust);
+    let each = [false, true].map(|ac| (0..layout.slices()).map(move |slice| (ac, slice))).into_iter().flatten();
     let mut ours = || {
-        for ac in [false, true] {
-            for slice in 0..layout.slices() {
-                assert!(black_box(ours::layout::view(SIZE.0, SIZE.1, black_box(&frame), ac, slice)).is_ok());
-            }
+        for (ac, slice) in each.clone() {
+            assert!(black_box(ours::layout::view(SIZE.0, SIZE.1, black_box(&frame), ac, slice)).is_ok());
         }
     };
-    frame_row("all 136 streams of that frame found", &mut ours, &mut rust);
+    let mut each_by_rust = || each.clone().for_each(|_| rust());
+    row("one stream of that frame found", 2 * layout.slices(), &mut [&mut ours, &mut each_by_rust]);
     let mut ours = || {
         let mut state = ours::builder::start(SIZE, false, 90, 0, black_box(&mut out), 0).unwrap();
         for (is_ac, streams) in [(false, &dc), (true, &ac)] {

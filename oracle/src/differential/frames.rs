@@ -4,7 +4,7 @@ use super::Run;
 use crate::gen::frames;
 use crate::ours;
 use crate::report::Kind;
-use reference::api::layout::{number, parse, write, Layout};
+use reference::api::layout::{number, parse, write, Container, Layout};
 
 pub fn run(run: &mut Run) {
     let kinds = Kinds::new(run);
@@ -32,6 +32,7 @@ struct Kinds {
     read: Kind,
     refused: Kind,
     views: Kind,
+    tables: Kind,
 }
 
 impl Kinds {
@@ -44,6 +45,7 @@ impl Kinds {
             read: kind("read"),
             refused: kind("refused"),
             views: kind("places of streams"),
+            tables: kind("tables of places"),
         }
     }
 }
@@ -127,21 +129,47 @@ fn bad_size(run: &mut Run, kinds: &Kinds, width: usize, height: usize) {
     let text = || format!("width {width} height {height} frame {frame:02x?}");
     run.report.same(kinds.refused, &ours::layout::parse(width, height, &frame), &Err(number(e)), n, text);
     run.report.same(kinds.views, &ours::layout::view(width, height, &frame, false, 0), &Err(number(e)), n, text);
+    let room = run.rng.pick(&[0, 4 * 270, 8]);
+    table(run, kinds, (width, height), &frame, room, &Err(number(e)));
 }
 
-/// One frame: its header or its refusal, and some of its streams.
+/// All streams' places in a table of so many numbers: question 5 comes before all others, a refused call leaves the
+/// table as it was, and so do all numbers behind the places.
+fn table(run: &mut Run, kinds: &Kinds, size: (usize, usize), frame: &[u8], room: usize, rust: &Result<Container, u32>) {
+    let (width, height) = size;
+    let fill = run.rng.next() as u32;
+    let mut wanted: Vec<u32> = (0..room as u32).map(|i| fill ^ i).collect();
+    let mut found = wanted.clone();
+    let slices = height / 16 + (height % 16 > 0) as usize;
+    let number = if room / 4 < slices { Err(5) } else { rust.as_ref().map(header).map_err(|x| *x) };
+    if let (Ok(_), Ok(c)) = (&number, rust) {
+        let none = vec![(0, 0); slices];
+        let ac = if c.ac.is_empty() { &none } else { &c.ac };
+        let places = c.dc.iter().chain(ac).flat_map(|(at, n)| [*at as u32, *n as u32]);
+        wanted.iter_mut().zip(places).for_each(|(w, x)| *w = x);
+    }
+    let answer = ours::layout::streams(width, height, frame, &mut found);
+    run.report.same(kinds.tables, &(answer, found), &(number, wanted), frame.len(), || {
+        format!("width {width} height {height} room {room} frame of {}: {:02x?}", frame.len(), &frame[..frame.len().min(200)])
+    });
+}
+
+/// What a frame's header says, as numbers.
+fn header(c: &Container) -> [usize; 5] {
+    [c.interlaced as usize, c.quality as usize, c.dc_shift as usize, c.header_len, !c.ac.is_empty() as usize]
+}
+
+/// One frame: its header or its refusal, some of its streams, and all of them in a table.
 fn judged(run: &mut Run, kinds: &Kinds, width: usize, height: usize, l: &Layout, frame: &[u8]) {
-    let rust = parse(l, frame);
+    let rust = parse(l, frame).map_err(number);
     let text = || format!("width {width} height {height} frame of {}: {:02x?}", frame.len(), &frame[..frame.len().min(200)]);
     let found = ours::layout::parse(width, height, frame);
-    let wanted = rust.as_ref().map_err(|e| number(*e)).map(|c| {
-        [c.interlaced as usize, c.quality as usize, c.dc_shift as usize, c.header_len, !c.ac.is_empty() as usize]
-    });
+    let wanted = rust.as_ref().map(header).map_err(|x| *x);
     let kind = if wanted.is_ok() { kinds.read } else { kinds.refused };
     run.report.same(kind, &found, &wanted, frame.len(), text);
     for slice in [run.rng.below(l.slices()), 0, l.slices() - 1, l.slices(), run.rng.next() as usize] {
         for ac in [false, true] {
-            let wanted = rust.as_ref().map_err(|e| number(*e)).and_then(|c| {
+            let wanted = rust.as_ref().map_err(|x| *x).and_then(|c| {
                 let list = if ac { &c.ac } else { &c.dc };
                 list.get(slice).copied().ok_or(14)
             });
@@ -149,4 +177,10 @@ fn judged(run: &mut Run, kinds: &Kinds, width: usize, height: usize, l: &Layout,
             run.report.same(kinds.views, &found, &wanted, frame.len(), || format!("slice {slice} ac {ac} {}", text()));
         }
     }
+    let room = match run.rng.below(8) {
+        0 => run.rng.below(4 * l.slices()),
+        1 => 4 * l.slices() + run.rng.below(6),
+        _ => 4 * l.slices(),
+    };
+    table(run, kinds, (width, height), frame, room, &rust);
 }

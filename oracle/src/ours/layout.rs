@@ -13,6 +13,10 @@ extern "C" {
         width: usize, height: usize, frame: *const u8, n: usize, interlaced: *mut u32, quality: *mut u32, shift: *mut u32,
         header_len: *mut usize, ac: *mut u32,
     ) -> u32;
+    fn vmx_streams(
+        width: usize, height: usize, frame: *const u8, n: usize, views: *mut u32, room: usize, interlaced: *mut u32,
+        quality: *mut u32, shift: *mut u32, header_len: *mut usize, ac: *mut u32,
+    ) -> u32;
     fn vmx_stream(
         width: usize, height: usize, frame: *const u8, n: usize, ac: u32, slice: usize, offset: *mut usize, len: *mut usize,
     ) -> u32;
@@ -46,10 +50,19 @@ pub fn preview_size(width: usize, height: usize, interlaced: bool) -> (usize, us
 
 /// Interlaced, quality, DC shift, header length, AC there; or the refusal's number.
 pub fn parse(width: usize, height: usize, frame: &[u8]) -> Result<[usize; 5], u32> {
-    let (mut interlaced, mut quality, mut shift, mut header_len, mut ac) = (7, 7, 7, 7, 7);
     let (p, n) = (frame.as_ptr(), frame.len());
-    let number =
-        unsafe { vmx_parse(width, height, p, n, &mut interlaced, &mut quality, &mut shift, &mut header_len, &mut ac) };
+    header(|[a, b, c, d], len| unsafe { vmx_parse(width, height, p, n, a, b, c, len, d) })
+}
+
+/// The same, and all streams' offsets and lengths in the table.
+pub fn streams(width: usize, height: usize, frame: &[u8], table: &mut [u32]) -> Result<[usize; 5], u32> {
+    let (p, n, t, room) = (frame.as_ptr(), frame.len(), table.as_mut_ptr(), table.len());
+    header(|[a, b, c, d], len| unsafe { vmx_streams(width, height, p, n, t, room, a, b, c, len, d) })
+}
+
+fn header(call: impl FnOnce([&mut u32; 4], &mut usize) -> u32) -> Result<[usize; 5], u32> {
+    let (mut interlaced, mut quality, mut shift, mut header_len, mut ac) = (7, 7, 7, 7, 7);
+    let number = call([&mut interlaced, &mut quality, &mut shift, &mut ac], &mut header_len);
     let found = [interlaced as usize, quality as usize, shift as usize, header_len, ac as usize];
     if number > 0 {
         assert_eq!(found, [7; 5], "a refused frame stores nothing");
