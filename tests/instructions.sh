@@ -27,6 +27,6 @@ while read -r what margin; do
 done <<'TABLE'
 code8 80
 code10 80
-read8 108
-read10 95
+read8 100
+read10 88
 TABLE
