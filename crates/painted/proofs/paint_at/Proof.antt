@@ -41,11 +41,13 @@ returns c =
     let k = t .before in
     let s = k .before .before .before .before .before in
     let e : s .args .deep ≡ true = t .if3 .taken in
-    rw e
-    (λ place h.
-    ap (put (s .args .c) (s .args .rows16 .now))
-    (block10 (s .args .stride) (s .args .preset) (s .args .v) (s .args .t6) (part (s .args .c) (s .args .rows16 .now)) (s .args .has-ac) (s .good .1 .1 .1 .1 .1 .0 .1 .0 .1)
-    (rw e at (k .idct-core .ensures)) (rw (toZ-ofZ (s .fits .v)) at (p .store16 .ensures)) place h), refl)
+    rw e (
+      λ place h.
+          ap (put (s .args .c) (s .args .rows16 .now))
+          (block10 (s .args .stride) (s .args .preset) (s .args .v) (s .args .t6) (part (s .args .c) (s .args .rows16 .now)) (s .args .has-ac) (s .good .1 .1 .1 .1 .1 .0 .1 .0 .1)
+          (rw e at (k .idct-core .ensures)) (rw (toZ-ofZ (s .fits .v)) at (p .store16 .ensures)) place h),
+      refl,
+    )
 
 -- ---- eight bits
 
@@ -75,11 +77,13 @@ returns-2 c =
     let s = j .before .before .before in
     let e : s .args .deep ≡ false = t .if3 .left in
     let f : s .args .has-ac ≡ true = only-ac (came j) e (u .if2 .taken) in
-    rw (e, f)
-    (λ place h.
-    ap (put (s .args .c) (s .args .rows8 .now))
-    (block8 (s .args .stride) (s .args .preset) (s .args .v) (s .args .t6) (part (s .args .c) (s .args .rows8 .now)) (s .good .1 .1 .1 .1 .1 .0 .1 .0 .1)
-    (rw e at (k .idct-core .ensures)) (rw (toZ-ofZ (s .fits .v)) at (p .store8 .ensures)) place h), refl)
+    rw (e, f) (
+      λ place h.
+          ap (put (s .args .c) (s .args .rows8 .now))
+          (block8 (s .args .stride) (s .args .preset) (s .args .v) (s .args .t6) (part (s .args .c) (s .args .rows8 .now)) (s .good .1 .1 .1 .1 .1 .0 .1 .0 .1)
+          (rw e at (k .idct-core .ensures)) (rw (toZ-ofZ (s .fits .v)) at (p .store8 .ensures)) place h),
+      refl,
+    )
 
 -- ---- flat
 
@@ -105,11 +109,13 @@ returns-3 c =
     let b = neither (came j) (u .if2 .left) in
     let e : s .args .deep ≡ false = b .0 in
     let f : s .args .has-ac ≡ false = b .1 in
-    rw (e, f)
-    (λ place h.
-    ap (put (s .args .c) (s .args .rows8 .now))
-    (flat (s .args .stride) (s .args .preset) (s .args .v) (s .args .t6) (part (s .args .c) (s .args .rows8 .now)) (toZ-ofZ (sfits-of (d .dc .given)))
-    (rw (toZ-ofZ (s .fits .v)) at (p .broadcast-dc8 .ensures)) place h), refl)
+    rw (e, f) (
+      λ place h.
+          ap (put (s .args .c) (s .args .rows8 .now))
+          (flat (s .args .stride) (s .args .preset) (s .args .v) (s .args .t6) (part (s .args .c) (s .args .rows8 .now)) (toZ-ofZ (sfits-of (d .dc .given)))
+          (rw (toZ-ofZ (s .fits .v)) at (p .broadcast-dc8 .ensures)) place h),
+      refl,
+    )
 
 pub paint-at-spec : {M : Type 1} → statement M
 paint-at-spec =
