@@ -20,6 +20,9 @@ use std::time::{Duration, Instant};
 const ROUNDS: usize = 15;
 const TURNS: usize = 5;
 const ROW: Duration = Duration::from_millis(200);
+/// Where a block lies on the stack, seen from a plane's rows, moves a time by a tenth, and is another in each run of a program:
+/// so each round starts at another depth of the stack, over a page and more.
+const DEPTHS: usize = 15;
 
 /// All parts, or those that are named.
 pub fn run(parts: &[&str]) -> ExitCode {
@@ -75,6 +78,21 @@ fn work_on<T: Made>(who: &str, act: &str, times: usize) -> ExitCode {
     ExitCode::SUCCESS
 }
 
+/// The time of one turn, n steps deeper on the stack.
+#[inline(never)]
+fn deeper(n: usize, side: &mut dyn FnMut()) -> Duration {
+    let step = black_box([0u8; 256]);
+    let time = if n > 0 {
+        deeper(n - 1, side)
+    } else {
+        let start = Instant::now();
+        side();
+        start.elapsed()
+    };
+    black_box(&step);
+    time
+}
+
 /// One row of the table: the least time of one of `items`, ours, the Rust's and, where it differs, its portable path's.
 fn row(name: &str, items: usize, sides: &mut [&mut dyn FnMut()]) {
     let mut least = vec![f64::MAX; sides.len()];
@@ -83,9 +101,8 @@ fn row(name: &str, items: usize, sides: &mut [&mut dyn FnMut()]) {
         rounds += 1;
         for (side, least) in sides.iter_mut().zip(&mut least) {
             for _ in 0..TURNS {
-                let start = Instant::now();
-                side();
-                *least = least.min(start.elapsed().as_nanos() as f64 / items as f64);
+                let time = deeper(rounds % DEPTHS, side);
+                *least = least.min(time.as_nanos() as f64 / items as f64);
             }
         }
     }
