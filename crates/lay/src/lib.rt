@@ -10,7 +10,7 @@ ghost use lib.ListN.{length, take, drop};
 ghost use Rattle.bits.specs.Lay.{lay};
 
 // Bytes of a piece: one call of memmove each.
-const PIECE: usize = 512;
+const PIECE: usize = 1536;
 
 // Stores two bytes at `at`.
 pub fn put2(out: &mut [u8], at: usize, a: u8, b: u8)
@@ -45,7 +45,7 @@ fn copy(out: &mut [u8], i: usize, s: &[u8], j: usize, n: usize)
 
 // The same, by way of a local array.
 fn copy_piece(out: &mut [u8], i: usize, s: &[u8], j: usize, n: usize)
-    requires { ⌜ (i + n ≤ length (now out)) × (j + n ≤ length (now s)) × (n ≤ 512) ⌝ }
+    requires { ⌜ (i + n ≤ length (now out)) × (j + n ≤ length (now s)) × (n ≤ 1536) ⌝ }
     ensures { λ _. ⌜ now (out .exit) ≡ lay (now (out .entry)) i (take n (drop j (now (s .entry)))) ⌝ }
 {
     let mut piece = [0u8; PIECE];
@@ -56,7 +56,7 @@ fn copy_piece(out: &mut [u8], i: usize, s: &[u8], j: usize, n: usize)
 // The bytes of the next piece, where n are left.
 fn next_piece(n: usize) -> usize
     requires { ⌜ 0 < n ⌝ }
-    ensures { λ r. ⌜ (r ≤ n) × (r ≤ 512) × (0 < r) ⌝ }
+    ensures { λ r. ⌜ (r ≤ n) × (r ≤ 1536) × (0 < r) ⌝ }
 {
     if n < PIECE { n } else { PIECE }
 }
