@@ -1,25 +1,27 @@
 -- Laws of the table of all views, over the definitions.
 use mathlib.Core.Path.{_≡_, refl, sym, ap, ap₂, _∙_}
 use mathlib.Core.Bool.{true, false}
-use mathlib.Core.List.{List, [], _∷_, _++_}
-use Prim.Native.Nat.{ℕ, zero, suc, _+_, _-_, _*_, _/_, _%_, _≤_, _<_}
+use mathlib.Core.List.{List, _++_}
+use Prim.Native.Nat.{ℕ, zero, suc, _+_, _-_, _*_, _≤_, _<_}
 use native.Mathlib.Omega.{arith}
 use lib.ListN.{length, take, drop}
-use Rattle.ask.specs.Ask.{Answer, refused, accepted, andThen, firstNo}
+use lib.Seq.{length-take-le, take-append-le, take-take}
+use Rattle.ask.specs.Ask.{Answer, refused, accepted, firstNo}
 use Rattle.bits.specs.Lay.{lay}
-use Rattle.bits.proofs.LayLaw.{lay-none, lay-lay}
+use Rattle.bits.proofs.LayLaw.{lay-length, lay-lay}
 use Rattle.layout.specs.Geometry.{sliceCount, maxDcLen, maxAcLen}
 use Rattle.streams.specs.Streams.{oneStream, streams}
 use Rattle.streams.proofs.Laws.{one-end}
-use Rattle.header.specs.Header.{formatAt, headerLength, headerQuestions, Legal, FrameRead, frameRead}
+use Rattle.header.specs.Header.{formatAt, headerLength, headerQuestions, Legal}
 use Rattle.header.proofs.Laws.{begins-inside, format-small}
 use Rattle.parser.specs.Frame.{dcStreams, parseOf, View, nthStream, kindView, viewOf}
-use Rattle.parser.proofs.Laws.{dc-inside, dc-no, dc-only, ac-no, ac-too, view-yes, view-unwanted, ac-nth}
+use Rattle.parser.proofs.Laws.{dc-inside, dc-no, dc-only, ac-no, ac-too, view-yes, view-unwanted}
 use Rattle.viewwalk.specs.Table.{viewsOf}
 use Rattle.viewwalk.specs.Walk.{walkLeft, Walks}
-use Rattle.viewwalk.proofs.Laws.{views-length, views-same, back}
+use Rattle.viewwalk.proofs.Laws.{views-length, views-same, over, as-before}
 use Rattle.viewwalk.proofs.Walk.{one-within}
 use Rattle.bothwalks.specs.Table.{allViews, tableLeft}
+use Rattle.bothwalks.specs.Views.{Holds}
 
 -- ---- where the streams end at most
 pub streams-short : (n limit : ℕ) (f : List ℕ) (p : ℕ) {q : ℕ} → limit ≤ 430080 → streams n limit f p ≡ accepted q → q ≤ p + n * 430084
@@ -70,37 +72,53 @@ module _ (w h : ℕ) (f table held : List ℕ) (ok : Legal w h f) {slices : ℕ}
 
 -- the code's numbers are the definitions'
 module _ (w h : ℕ) (f table held t : List ℕ) {slices limit : ℕ} (n : slices ≡ sliceCount h) where
-  pub dc-left : {at : ℕ} → limit ≡ maxDcLen w → at ≡ formatAt f → t ≡ walkLeft (streams slices limit f (at + 3)) table held 0 (viewsOf (λ i. nthStream i limit f (at + 3)) slices)
-      → t ≡ walkLeft (dcStreams w h f) table held 0 (viewsOf (λ i. nthStream i (maxDcLen w) f (headerLength f)) (sliceCount h))
+  pub dc-left : {at : ℕ} → limit ≡ maxDcLen w → at ≡ formatAt f → t ≡ walkLeft (streams slices limit f (at + 3)) table held 0 slices (viewsOf (λ i. nthStream i limit f (at + 3)) slices)
+      → t ≡ walkLeft (dcStreams w h f) table held 0 (sliceCount h) (viewsOf (λ i. nthStream i (maxDcLen w) f (headerLength f)) (sliceCount h))
   dc-left l a e = rw (n, l, a) at e
 
-  pub ac-left : (q : ℕ) → limit ≡ maxAcLen w → t ≡ walkLeft (streams slices limit f q) table held slices (viewsOf (λ i. nthStream i limit f q) slices)
-      → t ≡ walkLeft (streams (sliceCount h) (maxAcLen w) f q) table held (sliceCount h) (viewsOf (λ i. nthStream i (maxAcLen w) f q) (sliceCount h))
+  pub ac-left : (q : ℕ) → limit ≡ maxAcLen w → t ≡ walkLeft (streams slices limit f q) table held slices slices (viewsOf (λ i. nthStream i limit f q) slices)
+      → t ≡ walkLeft (streams (sliceCount h) (maxAcLen w) f q) table held (sliceCount h) (sliceCount h) (viewsOf (λ i. nthStream i (maxAcLen w) f q) (sliceCount h))
   ac-left q l e = rw (n, l) at e
 
 pub none-left : (h : ℕ) (t : List ℕ) {slices : ℕ} {x : List ℕ} → slices ≡ sliceCount h → x ≡ lay t (2 * slices) (viewsOf (λ _. refused 14) slices) → x ≡ lay t (2 * sliceCount h) (viewsOf (λ _. refused 14) (sliceCount h))
 none-left h t n e = rw n at e
 
-pub kept : (h : ℕ) (table held : List ℕ) {slices : ℕ} {y : List ℕ} → slices ≡ sliceCount h → y ≡ lay held (2 * 0) (take (2 * slices) (drop (2 * 0) table)) → y ≡ lay held (2 * 0) (take (2 * sliceCount h) (drop (2 * 0) table))
-kept h table held n e = rw n at e
+-- numbers held by copying them
+pub holding : (h : ℕ) (table place : List ℕ) {n : ℕ} {held : List ℕ} → 4 * sliceCount h ≤ n → n ≤ length place → n ≤ length table → held ≡ lay place 0 (take n table) → Holds h table held
+unfolding lay
+holding h table place {n} {held} r s u e =
+    let l : length (take n table) ≡ n = length-take-le n table u in
+    let k : length held ≡ length place = ap length e ∙ lay-length place 0 (take n table) (omega arith) in
+    record {
+      long = omega arith;
+      same = ap (take (4 * sliceCount h)) e ∙ take-append-le (4 * sliceCount h) (take n table) (drop (0 + length (take n table)) place) (omega arith)
+          ∙ take-take (4 * sliceCount h) n table r;
+    }
 
 -- ---- what the walks leave
-module _ (w h : ℕ) (f : List ℕ) (yes : firstNo (headerQuestions w h f) ≡ 0) (table held : List ℕ) where
-  pub no-dc : (views : List ℕ) {m : ℕ} {t : List ℕ} → dcStreams w h f ≡ refused m → t ≡ walkLeft (dcStreams w h f) table held 0 views → t ≡ tableLeft (parseOf w h f) table (allViews w h f)
-  no-dc views d e = rw (dc-no w h f yes d) (rw d at e ∙ lay-none table 0)
+module _ (w h : ℕ) (f : List ℕ) (yes : firstNo (headerQuestions w h f) ≡ 0) (table held : List ℕ) (r : 4 * sliceCount h ≤ length table) (kept : Holds h table held) where
+  -- a part of what is held, put back
+  put-back : (m : ℕ) → m ≤ 4 * sliceCount h → lay table 0 (take m held) ≡ table
+  put-back m k =
+      as-before table held m (omega arith)
+      (sym (take-take m (4 * sliceCount h) held k) ∙ ap (take m) (kept .same) ∙ take-take m (4 * sliceCount h) table k)
 
-  module _ {q : ℕ} (d : dcStreams w h f ≡ accepted q) {t : List ℕ} (e : t ≡ walkLeft (dcStreams w h f) table held 0 (viewsOf (λ i. nthStream i (maxDcLen w) f (headerLength f)) (sliceCount h))) where
+  pub no-dc : (views : List ℕ) {m : ℕ} {t : List ℕ} → dcStreams w h f ≡ refused m → t ≡ walkLeft (dcStreams w h f) table held 0 (sliceCount h) views → t ≡ tableLeft (parseOf w h f) table (allViews w h f)
+  no-dc views d e = rw (dc-no w h f yes d) (rw d at e ∙ put-back (2 * (0 + sliceCount h)) (omega arith))
+
+  module _ {q : ℕ} (d : dcStreams w h f ≡ accepted q) {t : List ℕ} (e : t ≡ walkLeft (dcStreams w h f) table held 0 (sliceCount h) (viewsOf (λ i. nthStream i (maxDcLen w) f (headerLength f)) (sliceCount h))) where
     dc-there : t ≡ lay table 0 (viewsOf (λ i. nthStream i (maxDcLen w) f (headerLength f)) (sliceCount h))
     dc-there = rw d at e
 
-    pub no-ac : (views : List ℕ) {m : ℕ} {x y : List ℕ} → q < length f → 4 * sliceCount h ≤ length table → 4 * sliceCount h ≤ length held → streams (sliceCount h) (maxAcLen w) f q ≡ refused m
-        → y ≡ lay held (2 * 0) (take (2 * sliceCount h) (drop (2 * 0) table)) → x ≡ walkLeft (streams (sliceCount h) (maxAcLen w) f q) t y (sliceCount h) views → x ≡ tableLeft (parseOf w h f) table (allViews w h f)
-    no-ac views l r s a g k =
+    pub no-ac : (views : List ℕ) {m : ℕ} {x : List ℕ} → q < length f → streams (sliceCount h) (maxAcLen w) f q ≡ refused m
+        → x ≡ walkLeft (streams (sliceCount h) (maxAcLen w) f q) t held (sliceCount h) (sliceCount h) views → x ≡ tableLeft (parseOf w h f) table (allViews w h f)
+    no-ac views l a k =
         let v : ℕ → Answer View = λ i. nthStream i (maxDcLen w) f (headerLength f) in
-        let j : 2 * sliceCount h ≡ 0 + 2 * sliceCount h = omega arith in
+        let n : ℕ = 2 * (sliceCount h + sliceCount h) in
         rw (ac-no w h f yes d l a)
-        (back table held 0 (2 * sliceCount h) (omega arith) (viewsOf v (sliceCount h)) (views-length v (sliceCount h)) dc-there j (omega arith) g (rw a at k)
-        ∙ lay-none table 0)
+        (rw a at k ∙ ap (λ (t : List ℕ). lay t 0 (take n held)) dc-there
+        ∙ over table 0 (viewsOf v (sliceCount h)) (take n held) (omega (arith, views-length v (sliceCount h), length-take-le n held (omega (arith, kept .long)))) (omega arith)
+        ∙ put-back n (omega arith))
 
     joined : (ac : ℕ → Answer View) {x : List ℕ} → x ≡ lay t (2 * sliceCount h) (viewsOf ac (sliceCount h))
         → ((i : ℕ) → i < sliceCount h → viewOf w h f false i ≡ nthStream i (maxDcLen w) f (headerLength f)) → ((i : ℕ) → i < sliceCount h → viewOf w h f true i ≡ ac i)
@@ -118,9 +136,9 @@ module _ (w h : ℕ) (f : List ℕ) (yes : firstNo (headerQuestions w h f) ≡ 0
         let p = dc-only w h f yes d l in
         rw p (joined (λ _. refused 14) k (λ i b. view-yes w h f false i p b refl) (λ i b. view-unwanted w h f true i p b refl))
 
-    pub both : {x : List ℕ} {r : ℕ} (y : List ℕ) → q < length f → streams (sliceCount h) (maxAcLen w) f q ≡ accepted r
-        → x ≡ walkLeft (streams (sliceCount h) (maxAcLen w) f q) t y (sliceCount h) (viewsOf (λ i. nthStream i (maxAcLen w) f q) (sliceCount h)) → x ≡ tableLeft (parseOf w h f) table (allViews w h f)
-    both y l a k =
+    pub both : {x : List ℕ} {p : ℕ} → q < length f → streams (sliceCount h) (maxAcLen w) f q ≡ accepted p
+        → x ≡ walkLeft (streams (sliceCount h) (maxAcLen w) f q) t held (sliceCount h) (sliceCount h) (viewsOf (λ i. nthStream i (maxAcLen w) f q) (sliceCount h)) → x ≡ tableLeft (parseOf w h f) table (allViews w h f)
+    both l a k =
         let p = ac-too w h f yes d l a in
         rw p (joined (λ i. nthStream i (maxAcLen w) f q) (rw a at k) (λ i b. view-yes w h f false i p b refl) (λ i b. view-yes w h f true i p b refl ∙ found i))
       where

@@ -3,7 +3,7 @@ use mathlib.Core.Bool.{true, false}
 use mathlib.Core.List.{List}
 use mathlib.Core.Path.{_≡_}
 use Prim.Native.Nat.{ℕ, _*_, _≤_}
-use lib.ListN.{length}
+use lib.ListN.{length, take}
 use Rattle.ask.specs.Ask.{Answer, refused, accepted, firstNo}
 use Rattle.layout.specs.Geometry.{sliceCount}
 use Rattle.header.specs.Header.{headerQuestions, FrameRead, frameRead}
@@ -27,3 +27,8 @@ pub record Tabled (w h : ℕ) (f table left : List ℕ) (a : Answer FrameRead) :
 pub record Walkable (w h : ℕ) (f table : List ℕ) : Type 0 where
   pub yes : firstNo (headerQuestions w h f) ≡ 0
   pub room : 4 * sliceCount h ≤ length table
+
+-- what is held: the table's numbers, up to those of the last view
+pub record Holds (h : ℕ) (table held : List ℕ) : Type 0 where
+  pub long : 4 * sliceCount h ≤ length held
+  pub same : take (4 * sliceCount h) held ≡ take (4 * sliceCount h) table

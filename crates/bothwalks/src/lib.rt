@@ -1,9 +1,9 @@
 // The walks over all streams of a frame, DC and AC, with the views stored in a lent table.
 use streams::Place;
-ghost use Prim.Native.Nat.{_*_, _≤_};
+ghost use Prim.Native.Nat.{_≤_};
 ghost use lib.ListN.{length};
 ghost use Rattle.layout.specs.Geometry.{sliceCount};
-ghost use Rattle.bothwalks.specs.Views.{walkedSays, Tabled, Walkable};
+ghost use Rattle.bothwalks.specs.Views.{walkedSays, Tabled, Walkable, Holds};
 
 // What a walk over all streams of a frame found.
 pub enum Walked {
@@ -12,9 +12,9 @@ pub enum Walked {
     Refused(u32),
 }
 
-// Walks over all streams of a frame whose header is legal.
-fn walk(width: usize, height: usize, frame: &[u8], table: &mut [u32], held: &mut [u32]) -> Walked
-    requires { ⌜ (Walkable width height (now frame) (now table)) × (4 * sliceCount height ≤ length (now held)) ⌝ }
+// Walks over all streams of a frame whose header is legal. What stands in the table is held.
+fn walk(width: usize, height: usize, frame: &[u8], table: &mut [u32], held: &[u32]) -> Walked
+    requires { ⌜ (Walkable width height (now frame) (now table)) × (Holds height (now table) (now held)) ⌝ }
     ensures { λ r. ⌜ Tabled width height (now (frame .entry)) (now (table .entry)) (now (table .exit)) (walkedSays height (now (frame .entry)) r) ⌝ }
 {
     let slices = layout::slice_count(height);
@@ -37,13 +37,25 @@ fn walk(width: usize, height: usize, frame: &[u8], table: &mut [u32], held: &mut
     }
 }
 
-// The same, with a place to hold what stands in the table: of a frame of up to 1,088 rows, or of any.
+// The same, with a place to hold what stands in the table: of a frame of up to 1,088 rows with a table of as many numbers, of
+// such a frame with any table, or of any frame.
+fn walk_whole(width: usize, height: usize, frame: &[u8], table: &mut [u32]) -> Walked
+    requires { ⌜ (Walkable width height (now frame) (now table)) × (sliceCount height ≤ 68) × (272 ≤ length (now table)) ⌝ }
+    ensures { λ r. ⌜ Tabled width height (now (frame .entry)) (now (table .entry)) (now (table .exit)) (walkedSays height (now (frame .entry)) r) ⌝ }
+{
+    let mut held = [0u32; 272];
+    viewwalk::table::copy(&mut held, table, 272);
+    walk(width, height, frame, table, &held)
+}
+
 fn walk_small(width: usize, height: usize, frame: &[u8], table: &mut [u32]) -> Walked
     requires { ⌜ (Walkable width height (now frame) (now table)) × (sliceCount height ≤ 68) ⌝ }
     ensures { λ r. ⌜ Tabled width height (now (frame .entry)) (now (table .entry)) (now (table .exit)) (walkedSays height (now (frame .entry)) r) ⌝ }
 {
     let mut held = [0u32; 272];
-    walk(width, height, frame, table, &mut held)
+    let n = 4 * layout::slice_count(height);
+    viewwalk::table::copy(&mut held, table, n);
+    walk(width, height, frame, table, &held)
 }
 
 fn walk_large(width: usize, height: usize, frame: &[u8], table: &mut [u32]) -> Walked
@@ -51,15 +63,21 @@ fn walk_large(width: usize, height: usize, frame: &[u8], table: &mut [u32]) -> W
     ensures { λ r. ⌜ Tabled width height (now (frame .entry)) (now (table .entry)) (now (table .exit)) (walkedSays height (now (frame .entry)) r) ⌝ }
 {
     let mut held = [0u32; 1080];
-    walk(width, height, frame, table, &mut held)
+    let n = 4 * layout::slice_count(height);
+    viewwalk::table::copy(&mut held, table, n);
+    walk(width, height, frame, table, &held)
 }
 
-// Clearing the place takes a part of the time that the walk takes: small frames have a small one.
+// Clearing the place takes a part of the time that the walk takes: small frames have a small one, and one that is filled to
+// its end is not cleared.
 pub fn walk_any(width: usize, height: usize, frame: &[u8], table: &mut [u32]) -> Walked
     requires { ⌜ Walkable width height (now frame) (now table) ⌝ }
     ensures { λ r. ⌜ Tabled width height (now (frame .entry)) (now (table .entry)) (now (table .exit)) (walkedSays height (now (frame .entry)) r) ⌝ }
 {
     if height <= 1088 {
+        if 272 <= table.len() {
+            return walk_whole(width, height, frame, table);
+        }
         return walk_small(width, height, frame, table);
     }
     walk_large(width, height, frame, table)

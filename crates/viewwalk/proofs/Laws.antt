@@ -1,19 +1,18 @@
 -- Laws of tables of views, over the definitions.
 use mathlib.Core.Path.{_≡_, refl, sym, ap, ap₂, _∙_}
-use mathlib.Core.List.{List, [], _∷_, _++_, append-assoc}
+use mathlib.Core.List.{List, [], _∷_, _++_}
 use Prim.Native.Nat.{ℕ, zero, suc, _+_, _-_, _*_, _≤_, _<_}
 use native.Mathlib.Omega.{arith}
 use native.Mathlib.Numerals.{add-one}
-use native.Mathlib.Nat.{zero-add}
-use lib.ListN.{length, take, drop, set, getD, length-append, length-drop, take-append-drop}
-use lib.Seq.{take-suc, take-add, drop-drop, length-take-le, getD-drop}
+use lib.ListN.{length, take, drop, set, getD, length-append, take-append-drop}
+use lib.Seq.{drop-drop, length-take-le}
 use Rattle.ask.specs.Ask.{Answer, refused, accepted, andThen}
 use Rattle.bits.specs.Lay.{lay}
-use Rattle.bits.proofs.LayLaw.{lay-none, lay-lay, lay-take, lay-drop, lay-length}
-use Rattle.lay.proofs.Laws.{lay2, copied, no-copy}
+use Rattle.bits.proofs.LayLaw.{lay-none, lay-lay, lay-drop}
+use Rattle.lay.proofs.Laws.{copied, no-copy}
 use Rattle.streams.specs.Streams.{lengthAt, oneStream, streams}
-use Rattle.streams.proofs.Laws.{turn, one-end}
-use Rattle.parser.specs.Frame.{View, partAt, nthStream}
+use Rattle.streams.proofs.Laws.{one-end}
+use Rattle.parser.specs.Frame.{View, nthStream}
 use Rattle.parser.proofs.Laws.{nth-yes}
 use Rattle.viewwalk.specs.Table.{numbersOf, viewsOf}
 
@@ -49,60 +48,33 @@ pub no-view : (l : List ℕ) (i : ℕ) (view : ℕ → Answer View) → l ≡ la
 unfolding viewsOf
 no-view l i view = sym (lay-none l i)
 
--- ---- two numbers held
-pub two-held : (h : List ℕ) (t : List ℕ) (i : ℕ) → i + 2 ≤ length h → i + 2 ≤ length t → set (set h i (getD t i 0)) (i + 1) (getD t (i + 1) 0) ≡ lay h i (take 2 (drop i t))
-two-held h t i r s =
-    lay2 h i (getD t i 0) (getD t (i + 1) 0) r ∙ ap (lay h i) (sym (both (drop i t) (omega (arith, length-drop i t)) ∙ ap₂ (λ (a b : ℕ). a ∷ b ∷ []) (getD-drop i t 0 0 ∙ ap (λ (k : ℕ). getD t k 0) (omega arith)) (getD-drop i t 1 0)))
-  where
-    both : (l : List ℕ) → 2 ≤ length l → take 2 l ≡ getD l 0 0 ∷ getD l 1 0 ∷ []
-    both [] k = absurd (omega arith)
-    both (a ∷ []) k = absurd (omega arith)
-    both (a ∷ b ∷ l) k = refl
-
--- ---- one number put back after the other
-pub put-more : (l h : List ℕ) (k : ℕ) {x : List ℕ} → k < length l → k < length h → x ≡ lay l 0 (take k h) → set x k (getD h k 0) ≡ lay l 0 (take (k + 1) h)
-put-more l h k {x} r s e =
+-- ---- one number copied after the other
+pub copy-more : (l h : List ℕ) (k : ℕ) {x : List ℕ} → k < length l → k < length h → x ≡ lay l 0 (take k h) → set x k (getD h k 0) ≡ lay l 0 (take (k + 1) h)
+copy-more l h k {x} r s e =
     let i : k ≡ 0 + k = omega arith in
     ap₂ (λ (i j : ℕ). set x i (getD h j 0)) i i ∙ copied l 0 h 0 k (omega arith) (omega arith) e
 
-pub none-put : (l h : List ℕ) → l ≡ lay l 0 (take 0 h)
-none-put l h = no-copy l 0 h 0
+pub none-copied : (l h : List ℕ) → l ≡ lay l 0 (take 0 h)
+none-copied l h = no-copy l 0 h 0
 
--- ---- what is held while m numbers from i on are stored anew
-pub held-length : (t : List ℕ) (i m : ℕ) → i + m ≤ length t → length (take m (drop i t)) ≡ m
-held-length t i m r = length-take-le m (drop i t) (omega (arith, length-drop i t))
+-- ---- numbers copied over what was stored: as if nothing had been stored
+pub over : (t : List ℕ) (i : ℕ) (xs ys : List ℕ) → i + length xs ≤ length ys → i ≤ length t → lay (lay t i xs) 0 ys ≡ lay t 0 ys
+unfolding lay
+over t i xs ys r s =
+    let e : length ys ≡ i + length xs + (length ys - (i + length xs)) = omega arith in
+    let m : ℕ = length ys - (i + length xs) in
+    let z : 0 + length ys ≡ length ys = omega arith in
+    let d : drop (length ys) (lay t i xs) ≡ drop (length ys) t =
+    ap (λ (n : ℕ). drop n (lay t i xs)) e ∙ sym (drop-drop m (i + length xs) (lay t i xs)) ∙ ap (drop m) (lay-drop t i xs s)
+    ∙ drop-drop m (i + length xs) t ∙ ap (λ (n : ℕ). drop n t) (sym e) in
+    ap (λ (n : ℕ). ys ++ drop n (lay t i xs)) z ∙ ap (λ (l : List ℕ). ys ++ l) d ∙ ap (λ (n : ℕ). ys ++ drop n t) (sym z)
 
-module _ (t h : List ℕ) (i m : ℕ) (r : i + m ≤ length t) (xs : List ℕ) {x : List ℕ} (n : length xs ≡ m) (e : x ≡ lay t i xs) where
-  behind : drop (i + m) x ≡ drop (i + m) t
-  behind =
-      let k : i + m ≡ i + length xs = omega arith in
-      ap (drop (i + m)) e ∙ ap (λ (j : ℕ). drop j (lay t i xs)) k ∙ lay-drop t i xs (omega arith) ∙ ap (λ (j : ℕ). drop j t) (sym k)
-
-  -- two more
-  pub held-on : {j : ℕ} {y z : List ℕ} → j ≡ i + m → i + m ≤ length h → y ≡ lay h i (take m (drop i t)) → z ≡ lay y j (take 2 (drop j x)) → z ≡ lay h i (take (m + 2) (drop i t))
-  held-on {j} {y} p s f g =
-      let k : i + m ≡ i + length (take m (drop i t)) = omega (arith, held-length t i m r) in
-      g ∙ ap (λ (j : ℕ). lay y j (take 2 (drop j x))) p
-      ∙ ap₂ (λ (a b : List ℕ). lay a (i + m) (take 2 b)) f (behind ∙ sym (drop-drop m i t))
-      ∙ ap (λ (j : ℕ). lay (lay h i (take m (drop i t))) j (take 2 (drop m (drop i t)))) k
-      ∙ lay-lay h i (take m (drop i t)) (omega arith) (take 2 (drop m (drop i t)))
-      ∙ ap (lay h i) (sym (take-add m 2 (drop i t)))
-
-  -- all of it put back: as if nothing had been stored
-  pub back : {j : ℕ} {y z : List ℕ} → j ≡ i + m → i + m ≤ length h → y ≡ lay h i (take m (drop i t)) → z ≡ lay x 0 (take j y) → z ≡ lay t 0 (take i h)
-  unfolding lay
-  back {j} {y} p s f g =
-      let k : i + m ≡ i + length (take m (drop i t)) = omega (arith, held-length t i m r) in
-      let a : take j y ≡ take i h ++ take m (drop i t) = ap₂ take (p ∙ k) f ∙ lay-take h i (take m (drop i t)) (omega arith) in
-      let b : length (take i h ++ take m (drop i t)) ≡ i + m = omega (arith, length-append (take i h) (take m (drop i t)), held-length t i m r, length-take-le i h (omega arith)) in
-      let c : 0 + length (take i h ++ take m (drop i t)) ≡ i + m = omega arith in
-      let d : 0 + length (take i h) ≡ i = omega (arith, length-take-le i h (omega arith)) in
-      g ∙ ap (lay x 0) a
-      ∙ ap (λ (j : ℕ). (take i h ++ take m (drop i t)) ++ drop j x) c
-      ∙ ap (λ (l : List ℕ). (take i h ++ take m (drop i t)) ++ l) (behind ∙ sym (drop-drop m i t))
-      ∙ append-assoc (take i h) (take m (drop i t)) (drop m (drop i t))
-      ∙ ap (λ (l : List ℕ). take i h ++ l) (take-append-drop m (drop i t))
-      ∙ ap (λ (j : ℕ). take i h ++ drop j t) (sym d)
+-- where they are those that stood there, all is as it was
+pub as-before : (t h : List ℕ) (m : ℕ) → m ≤ length t → take m h ≡ take m t → lay t 0 (take m h) ≡ t
+unfolding lay
+as-before t h m r e =
+    let z : 0 + length (take m t) ≡ m = omega (arith, length-take-le m t r) in
+    ap (lay t 0) e ∙ ap (λ (n : ℕ). take m t ++ drop n t) z ∙ take-append-drop m t
 
 -- ---- the walk, a stream more
 walk-suc : (k limit : ℕ) (f : List ℕ) (p : ℕ) {at q : ℕ} → streams k limit f p ≡ accepted at → oneStream limit f at ≡ accepted q → streams (suc k) limit f p ≡ accepted q

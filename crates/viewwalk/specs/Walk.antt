@@ -14,7 +14,7 @@ pub record Walks (f : List ℕ) (n limit p from : ℕ) (table held : List ℕ) :
   pub room : 2 * (from + n) ≤ length table
   pub holds : 2 * (from + n) ≤ length held
 
--- a walk stores its views behind `from` others, in whose places stood what is held; where it is refused all that is put back
-abbrev pub walkLeft : Answer ℕ → List ℕ → List ℕ → ℕ → List ℕ → List ℕ
-walkLeft (refused n) table held from views = lay table 0 (take (2 * from) held)
-walkLeft (accepted q) table held from views = lay table (2 * from) views
+-- a walk stores its views behind `from` others; where it is refused, what is held goes into the places of all these views
+abbrev pub walkLeft : Answer ℕ → List ℕ → List ℕ → ℕ → ℕ → List ℕ → List ℕ
+walkLeft (refused m) table held from n views = lay table 0 (take (2 * (from + n)) held)
+walkLeft (accepted q) table held from n views = lay table (2 * from) views

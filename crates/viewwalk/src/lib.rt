@@ -1,24 +1,20 @@
 // Views stored in a lent table while the streams are walked over and judged.
 //
-// What stood in their places is held, and put back where a stream is refused: so one walk is enough, and a refused frame
+// What stood in the table is held, and put back where a stream is refused: so one walk is enough, and a refused frame
 // leaves the table as it was.
 use streams::Place;
 
 pub mod table;
 
 ghost use mathlib.Core.Path.{_≡_};
-ghost use Prim.Native.Nat.{ℕ, _*_};
-ghost use lib.ListN.{take, drop};
-ghost use Rattle.ask.specs.Ask.{accepted};
-ghost use Rattle.bits.specs.Lay.{lay};
 ghost use Rattle.streams.specs.Streams.{streams};
 ghost use Rattle.streams.specs.Views.{placeSays};
 ghost use Rattle.parser.specs.Frame.{nthStream};
 ghost use Rattle.viewwalk.specs.Table.{viewsOf};
 ghost use Rattle.viewwalk.specs.Walk.{walkLeft, Walks};
 
-// Stores the views of the n streams at p behind `from` others; the place behind them. No stream is longer than 430,080
-// bytes, so every offset fits.
+// Stores the views of the n streams at p behind `from` others; the place behind them. Where one is refused, the numbers that
+// are held go into the places of all these views. No stream is longer than 430,080 bytes, so every offset fits.
 pub fn walk_views(
     f: &[u8],
     n: usize,
@@ -26,23 +22,26 @@ pub fn walk_views(
     p: usize,
     from: usize,
     table: &mut [u32],
-    held: &mut [u32],
+    held: &[u32],
 ) -> Place
     requires { ⌜ Walks (now f) n limit p from (now table) (now held) ⌝ }
-    ensures { λ r. ⌜ (placeSays r ≡ streams n limit (now (f .entry)) p) × (now (table .exit) ≡ walkLeft (streams n limit (now (f .entry)) p) (now (table .entry)) (now (held .entry)) from (viewsOf (λ i. nthStream i limit (now (f .entry)) p) n)) × ((q : ℕ) → streams n limit (now (f .entry)) p ≡ accepted q → now (held .exit) ≡ lay (now (held .entry)) (2 * from) (take (2 * n) (drop (2 * from) (now (table .entry))))) ⌝ }
+    ensures { λ r. ⌜ (placeSays r ≡ streams n limit (now (f .entry)) p) × (now (table .exit) ≡ walkLeft (streams n limit (now (f .entry)) p) (now (table .entry)) (now (held .entry)) from n (viewsOf (λ i. nthStream i limit (now (f .entry)) p) n)) ⌝ }
 {
     let mut at = p;
     let mut k = 0;
     while k < n {
-        let i = 2 * (from + k);
         match streams::one_stream(f, limit, at) {
             Place::At(q) => {
-                table::hold_view(held, i, table);
-                table::put_view(table, i, (at + 4) as u32, (q - (at + 4)) as u32);
+                table::put_view(
+                    table,
+                    2 * (from + k),
+                    (at + 4) as u32,
+                    (q - (at + 4)) as u32,
+                );
                 at = q;
             }
             Place::Refused(x) => {
-                table::put_back(table, held, i);
+                table::copy(table, held, 2 * (from + n));
                 return Place::Refused(x);
             }
         }

@@ -2,7 +2,7 @@
 ghost use mathlib.Core.Path.{_≡_};
 ghost use mathlib.Core.List.{[], _∷_};
 ghost use Prim.Native.Nat.{_+_, _*_, _≤_};
-ghost use lib.ListN.{length, take, drop};
+ghost use lib.ListN.{length, take};
 ghost use Rattle.ask.specs.Ask.{refused};
 ghost use Rattle.bits.specs.Lay.{lay};
 ghost use Rattle.viewwalk.specs.Table.{viewsOf};
@@ -16,23 +16,14 @@ pub fn put_view(table: &mut [u32], i: usize, offset: u32, size: u32)
     table[i + 1] = size;
 }
 
-// Holds what stands at i in the table.
-pub fn hold_view(held: &mut [u32], i: usize, table: &[u32])
-    requires { ⌜ (i + 2 ≤ length (now held)) × (i + 2 ≤ length (now table)) ⌝ }
-    ensures { λ _. ⌜ now (held .exit) ≡ lay (now (held .entry)) i (take 2 (drop i (now (table .entry)))) ⌝ }
-{
-    held[i] = table[i];
-    held[i + 1] = table[i + 1];
-}
-
-// Puts the first n numbers that are held back.
-pub fn put_back(table: &mut [u32], held: &[u32], n: usize)
-    requires { ⌜ (n ≤ length (now table)) × (n ≤ length (now held)) ⌝ }
-    ensures { λ _. ⌜ now (table .exit) ≡ lay (now (table .entry)) 0 (take n (now (held .entry))) ⌝ }
+// Copies the first n numbers of `from`.
+pub fn copy(to: &mut [u32], from: &[u32], n: usize)
+    requires { ⌜ (n ≤ length (now to)) × (n ≤ length (now from)) ⌝ }
+    ensures { λ _. ⌜ now (to .exit) ≡ lay (now (to .entry)) 0 (take n (now (from .entry))) ⌝ }
 {
     let mut k = 0;
     while k < n {
-        table[k] = held[k];
+        to[k] = from[k];
         k += 1;
     }
 }

@@ -1,21 +1,19 @@
--- `viewwalk::walk_views`: behind each stream the table holds the views so far, and what stood there is held.
+-- `viewwalk::walk_views`: behind each stream the table holds the views so far.
 use borrow.Author.Needs.{needs}
-use mathlib.Core.Path.{_≡_, refl, sym, ap, _∙_}
-use Prim.Native.Nat.{ℕ, _+_, _-_, _*_, _≤_}
+use mathlib.Core.Path.{refl, sym}
+use Prim.Native.Nat.{_-_, _≤_}
 use native.Mathlib.Omega.{arith}
-use lib.ListN.{length}
-use Rattle.streams.specs.Views.{placeSays}
 use Rattle.streams.specs.declared.Place.the-variants as place
-use Rattle.streams.proofs.Laws.{place-told, never, part-before}
-use Rattle.viewwalk.proofs.Walk.{Walking, begins, goes-on, stops, undone, ends, stores, keeps, one-within}
+use Rattle.streams.proofs.Laws.{place-told, part-before}
+use Rattle.viewwalk.proofs.Walk.{Walking, begins, goes-on, stops, undone, ends, stores, one-within}
 use Rattle.viewwalk.proofs.walk_views.Statement.{statement}
 use Rattle.viewwalk.proofs.walk_views.Tie as tie
 
 abbrev Inv-loop : tie.InvT-loop
-Inv-loop f n limit p from table₀ held₀ at₀ k₀ table held at k = Walking f n limit p from table₀ held₀ table held at k
+Inv-loop f n limit p from table₀ held at₀ k₀ table at k = Walking f n limit p from table₀ table at k
 
 abbrev μ-loop : tie.MeasureT-loop
-μ-loop f n limit p from table₀ held₀ at₀ k₀ table held at k = n - k
+μ-loop f n limit p from table₀ held at₀ k₀ table at k = n - k
 
 loop-holds : tie.Need-loop-holds Inv-loop μ-loop
 loop-holds c =
@@ -26,42 +24,27 @@ loop-holds c =
 one-stream-requires : tie.Need-one-stream-requires Inv-loop μ-loop
 one-stream-requires c κs = search needs
 
-hold-view-requires : tie.Need-hold-view-requires Inv-loop μ-loop
-hold-view-requires c κs = (omega arith, omega arith)
-
-add-put-view : tie.Need-add-put-view Inv-loop μ-loop
-add-put-view c = omega arith
-
-cast-put-view : tie.Need-cast-put-view Inv-loop μ-loop
-cast-put-view c = omega arith
-
-add-put-view-2 : tie.Need-add-put-view-2 Inv-loop μ-loop
-add-put-view-2 c = omega arith
-
 sub-put-view : tie.Need-sub-put-view Inv-loop μ-loop
 sub-put-view c =
-    let k = c .before .before .before .before .before .before .before in
+    let k = c .before .before in
     let l = k .before .before .before .before in
     let a = l .before .before .before .before .args in
     part-before (a .limit) (a .f .now) (l .loop .at) (place-told (k .before .before .one-stream .ensures) (k .q .given .1))
 
 cast-put-view-2 : tie.Need-cast-put-view-2 Inv-loop μ-loop
 cast-put-view-2 c =
-    let k = c .before .before .before .before .before .before .before in
+    let k = c .before .before in
     let l = k .before .before .before .before in
     let s = l .before .before .before .before in
     let a = s .args in
     omega (arith, s .pre .short, one-within (a .limit) (a .f .now) (l .loop .at) (place-told (k .before .before .one-stream .ensures) (k .q .given .1)))
 
-put-view-requires : tie.Need-put-view-requires Inv-loop μ-loop
-put-view-requires c κs = omega arith
-
-put-back-requires : tie.Need-put-back-requires Inv-loop μ-loop
-put-back-requires c κs = (omega arith, omega arith)
+copy-requires : tie.Need-copy-requires Inv-loop μ-loop
+copy-requires c κs = (omega arith, omega arith)
 
 returns : tie.Need-returns Inv-loop μ-loop
 returns c =
-    let k = c .before .before .before .before .before .before in
+    let k = c .before .before .before .before .before in
     let l = k .before .before .before .before in
     let s = l .before .before .before .before in
     let a = s .args in
@@ -69,20 +52,18 @@ returns c =
     let no = stops (a .f .now) (a .n) (a .limit) (a .p) (a .from) (a .table .now) (a .held .now) (s .pre) w (omega arith) (place-told (k .before .before .one-stream .ensures) (k .x .given .1)) in (
       sym no,
       rw no
-          (undone (a .f .now) (a .n) (a .limit) (a .p) (a .from) (a .table .now) (a .held .now) (s .pre) w (omega arith) refl (c .before .before .put-back .ensures)),
-      λ q e. absurd (never (sym no ∙ e)),
+          (undone (a .f .now) (a .n) (a .limit) (a .p) (a .from) (a .table .now) (a .held .now) (s .pre) w (omega arith) (c .before .before .copy .ensures)),
     )
 
 loop-again : tie.Need-loop-again Inv-loop μ-loop
 loop-again c =
     let v = c .before .before in
-    let h = v .before .before .before .before in
-    let k = h .before .before .before .before in
+    let k = v .before .before .before in
     let l = k .before .before .before .before in
     let s = l .before .before .before .before in
     let a = s .args in
     goes-on (a .f .now) (a .n) (a .limit) (a .p) (a .from) (a .table .now) (a .held .now) (s .pre) (l .loop .inv) (omega arith) refl
-    (place-told (k .before .before .one-stream .ensures) (k .q .given .1)) (h .hold-view .ensures) (v .put-view .ensures)
+    (place-told (k .before .before .one-stream .ensures) (k .q .given .1)) (v .put-view .ensures)
 
 returns-2 : tie.Need-returns-2 Inv-loop μ-loop
 returns-2 c =
@@ -93,7 +74,6 @@ returns-2 c =
     let done : a .n ≤ l .loop .k = omega arith in (
       sym (ends (a .f .now) (a .n) (a .limit) (a .p) (a .from) (a .table .now) (a .held .now) (s .pre) w done),
       stores (a .f .now) (a .n) (a .limit) (a .p) (a .from) (a .table .now) (a .held .now) (s .pre) w done,
-      λ q e. keeps (a .f .now) (a .n) (a .limit) (a .p) (a .from) (a .table .now) (a .held .now) (s .pre) w done,
     )
 
 pub walk-views-spec : {M : Type 1} → statement M
@@ -103,25 +83,24 @@ walk-views-spec =
     Inv-loop
     μ-loop
     loop-holds
-    (λ c. search needs)
-    (λ c. search needs)
     one-stream-requires
     (λ c. search needs)
-    hold-view-requires
-    add-put-view
-    cast-put-view
-    add-put-view-2
+    (λ c. omega arith)
+    (λ c. omega arith)
+    (λ c. omega arith)
+    (λ c. omega arith)
+    (λ c. omega arith)
     sub-put-view
     cast-put-view-2
-    put-view-requires
+    (λ c κs. omega arith)
     (λ c. search needs)
-    put-back-requires
-    (λ c. search needs)
+    (λ c. omega arith)
+    (λ c. omega arith)
+    copy-requires
     (λ c. search needs)
     returns
     (λ c. search needs)
     (λ c. search needs)
     loop-again
-    (λ c. search needs)
     (λ c. search needs)
     returns-2)

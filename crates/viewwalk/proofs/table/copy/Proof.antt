@@ -1,24 +1,24 @@
--- `viewwalk::table::put_back`: so many numbers are copied.
+-- `viewwalk::table::copy`: so many numbers are copied.
 use borrow.Author.Needs.{needs}
 use mathlib.Core.Path.{_≡_, refl, ap, _∙_}
 use native.Mathlib.Omega.{arith}
 use Prim.Native.Nat.{_-_, _≤_}
 use lib.ListN.{length, take, getD, length-set}
 use Rattle.bits.specs.Lay.{lay}
-use Rattle.viewwalk.proofs.Laws.{put-more, none-put}
-use Rattle.viewwalk.proofs.table.put_back.Statement.{statement}
-use Rattle.viewwalk.proofs.table.put_back.Tie as tie
+use Rattle.viewwalk.proofs.Laws.{copy-more, none-copied}
+use Rattle.viewwalk.proofs.table.copy.Statement.{statement}
+use Rattle.viewwalk.proofs.table.copy.Tie as tie
 
 abbrev Inv-loop : tie.InvT-loop
-Inv-loop table₀ held n k₀ table k = (k ≤ n) × ((length table ≡ length table₀) × (table ≡ lay table₀ 0 (take k held)))
+Inv-loop to₀ from n k₀ to k = (k ≤ n) × ((length to ≡ length to₀) × (to ≡ lay to₀ 0 (take k from)))
 
 abbrev μ-loop : tie.MeasureT-loop
-μ-loop table₀ held n k₀ table k = n - k
+μ-loop to₀ from n k₀ to k = n - k
 
 loop-holds : tie.Need-loop-holds Inv-loop μ-loop
 loop-holds c =
     let a = c .args in
-    (search needs, (refl, none-put (a .table .now) (a .held .now)))
+    (search needs, (refl, none-copied (a .to .now) (a .from .now)))
 
 loop-again : tie.Need-loop-again Inv-loop μ-loop
 loop-again c =
@@ -27,8 +27,8 @@ loop-again c =
     let a = s .args in (
       omega arith,
       (
-        length-set (l .loop .table) (l .loop .k) (getD (a .held .now) (l .loop .k) 0) ∙ l .loop .inv .1 .0,
-        put-more (a .table .now) (a .held .now) (l .loop .k) (omega (arith, s .pre .0, c .before .loop-test .taken)) (omega (arith, s .pre .1, c .before .loop-test .taken)) (l .loop .inv .1 .1),
+        length-set (l .loop .to) (l .loop .k) (getD (a .from .now) (l .loop .k) 0) ∙ l .loop .inv .1 .0,
+        copy-more (a .to .now) (a .from .now) (l .loop .k) (omega (arith, s .pre .0, c .before .loop-test .taken)) (omega (arith, s .pre .1, c .before .loop-test .taken)) (l .loop .inv .1 .1),
       ),
     )
 
@@ -37,10 +37,10 @@ returns c =
     let l = c .before in
     let a = l .before .args in
     let e : l .loop .k ≡ a .n = omega arith in
-    l .loop .inv .1 .1 ∙ ap (λ k. lay (a .table .now) 0 (take k (a .held .now))) e
+    l .loop .inv .1 .1 ∙ ap (λ k. lay (a .to .now) 0 (take k (a .from .now))) e
 
-pub put-back-spec : {M : Type 1} → statement M
-put-back-spec =
+pub copy-spec : {M : Type 1} → statement M
+copy-spec =
     tie.close
     (tie.spec
     Inv-loop
