@@ -4,27 +4,24 @@ use mathlib.Core.Bool.{Bool, true, false, _&&_}
 use mathlib.Core.List.{List, [], _∷_}
 use Prim.Native.Nat.{ℕ, zero, suc, _+_, _-_, _≤_, _<_}
 use native.Mathlib.Omega.{arith}
+use native.Mathlib.Nat.{zero-add}
 use lib.Dec.{ltb}
 use lib.ListN.{length}
-use borrow.Author.Tests.{lt-ltb, le-ltb}
+use borrow.Author.Tests.{lt-ltb, le-ltb, ltb-true, ltb-false}
 use Rattle.ask.specs.Ask.{Answer, refused, accepted, ask, firstNo, asked, andThen, byNumber}
 use Rattle.layout.specs.Geometry.{sliceCount, maxDcLen, maxAcLen}
 use Rattle.layout.specs.Views.{isAc}
 use Rattle.streams.proofs.Laws.{one-inside, streams-inside, one-end}
 use Rattle.streams.specs.Streams.{lengthAt, oneStream, streams}
-use Rattle.header.proofs.Laws.{begins-inside, legal}
-use Rattle.header.specs.Header.{formatAt, headerLength, headerQuestions, Legal, FrameRead, frameRead}
+use Rattle.header.proofs.Laws.{begins-inside}
+use Rattle.header.specs.Header.{formatAt, headerLength, headerQuestions, FrameRead, frameRead}
 use Rattle.parser.specs.Frame.{dcStreams, parseOf, View, partAt, kindStart, kindLimit, wanted, nthStream, kindView, viewOf}
-use Rattle.parser.specs.Views.{frameSays, viewSays}
+use Rattle.parser.specs.Views.{viewSays}
 use Rattle.layout.specs.declared.Kind.{Kind}
-use Rattle.parser.specs.declared.FrameAnswer.{FrameAnswer}
 use Rattle.parser.specs.declared.ViewAnswer.{ViewAnswer}
 use Rattle.layout.specs.declared.Kind.the-variants as kind
 
 -- ---- what a call answered, known by the case that its result is of
-pub frame-told : {r x : FrameAnswer} {a : Answer FrameRead} → frameSays r ≡ a → r ≡ x → a ≡ frameSays x
-frame-told e d = sym e ∙ ap frameSays d
-
 pub view-told : {r x : ViewAnswer} {a : Answer View} → viewSays r ≡ a → r ≡ x → a ≡ viewSays x
 view-told e d = sym e ∙ ap viewSays d
 
@@ -60,22 +57,42 @@ module _ (w h : ℕ) (f : List ℕ) {slices : ℕ} {a : Answer ℕ} where
   pub ac-walk : (q : ℕ) {limit : ℕ} → slices ≡ sliceCount h → limit ≡ maxAcLen w → a ≡ streams slices limit f q → a ≡ streams (sliceCount h) (maxAcLen w) f q
   ac-walk q p r e = rw (← p, ← r) e
 
--- an accepted frame has a legal header
-pub frame-legal : (w h : ℕ) (f : List ℕ) {r : FrameRead} → parseOf w h f ≡ accepted r → Legal w h f
-frame-legal w h f {r} e = go (firstNo (headerQuestions w h f)) refl
-  where
-    go : (n : ℕ) → firstNo (headerQuestions w h f) ≡ n → Legal w h f
-    go zero x = legal w h f x
-    go (suc n) x = absurd (let z : _≡_ {A = ℕ} 0 1 = cc (frame-no w h f (sym x) (omega arith)) in omega arith)
-
 pub dc-inside : (w h : ℕ) (f : List ℕ) {q : ℕ} → 5 ≤ length f → dcStreams w h f ≡ accepted q → q ≤ length f
 dc-inside w h f k e = streams-inside (sliceCount h) (maxDcLen w) f (headerLength f) (begins-inside f refl k) e
 
+-- ---- k streams, then the others
+streams-cut : (k m limit : ℕ) (f : List ℕ) (p : ℕ) → streams (k + m) limit f p ≡ andThen (streams k limit f p) (λ q. streams m limit f q)
+unfolding streams
+streams-cut zero m limit f p = ap (λ (n : ℕ). streams n limit f p) (zero-add m)
+streams-cut (suc k) m limit f p =
+    let s : suc k + m ≡ suc (k + m) = omega arith in
+    ap (λ (n : ℕ). streams n limit f p) s ∙ go (oneStream limit f p) (λ q. streams-cut k m limit f q)
+  where
+    go : (a : Answer ℕ) → ((q : ℕ) → streams (k + m) limit f q ≡ andThen (streams k limit f q) (λ r. streams m limit f r)) → andThen a (λ q. streams (k + m) limit f q) ≡ andThen (andThen a (λ q. streams k limit f q)) (λ r. streams m limit f r)
+    go (refused x) next = refl
+    go (accepted q) next = next q
+
+module _ (n limit : ℕ) (f : List ℕ) (p : ℕ) {k : ℕ} (h : k ≤ n) where
+  cut : streams n limit f p ≡ andThen (streams k limit f p) (λ q. streams (n - k) limit f q)
+  cut =
+      let s : n ≡ k + (n - k) = omega arith in
+      ap (λ (m : ℕ). streams m limit f p) s ∙ streams-cut k (n - k) limit f p
+
+  pub past : {q : ℕ} → streams k limit f p ≡ accepted q → streams n limit f p ≡ streams (n - k) limit f q
+  past e = cut ∙ ap (λ (a : Answer ℕ). andThen a (λ q. streams (n - k) limit f q)) e
+
+  pub past-no : {m : ℕ} → streams k limit f p ≡ refused m → streams n limit f p ≡ refused m
+  past-no e = cut ∙ ap (λ (a : Answer ℕ). andThen a (λ q. streams (n - k) limit f q)) e
+
 -- ---- a stream behind n others
+pub no-walk : (limit : ℕ) (f : List ℕ) (p : ℕ) → streams 0 limit f p ≡ accepted p
+unfolding streams
+no-walk limit f p = refl
+
 module _ (n limit : ℕ) (f : List ℕ) (p : ℕ) where
-  pub nth-walk : {m : ℕ} → streams n limit f p ≡ refused m → nthStream n limit f p ≡ refused m
-  unfolding nthStream
-  nth-walk e = rw e
+  pub nth-from : {q : ℕ} → streams n limit f p ≡ accepted q → nthStream 0 limit f q ≡ nthStream n limit f p
+  unfolding nthStream streams
+  nth-from e = rw e
 
   pub nth-no : {q m : ℕ} → streams n limit f p ≡ accepted q → oneStream limit f q ≡ refused m → nthStream n limit f p ≡ refused m
   unfolding nthStream
@@ -97,9 +114,6 @@ nth-part n limit f p {q} d e = ap accepted (part-is f q (one-end limit f q e)) �
 module _ (w h : ℕ) (f : List ℕ) (slice : ℕ) where
   pub dc-nth : {limit at : ℕ} {a : Answer View} → limit ≡ maxDcLen w → at ≡ formatAt f → a ≡ nthStream slice limit f (at + 3) → a ≡ kindView false w h f slice
   dc-nth p q e = rw (← p, ← q) e
-
-  pub ac-nth-no : {n : ℕ} → dcStreams w h f ≡ refused n → kindView true w h f slice ≡ refused n
-  ac-nth-no e = rw e
 
   pub ac-nth : (q : ℕ) {limit : ℕ} {a : Answer View} → limit ≡ maxAcLen w → a ≡ nthStream slice limit f q → dcStreams w h f ≡ accepted q → a ≡ kindView true w h f slice
   ac-nth q p e d = rw (d, ← p) e
@@ -123,23 +137,42 @@ module _ (w h : ℕ) (f : List ℕ) (ac : Bool) (slice : ℕ) where
     unfolding viewOf asked firstNo
     view-yes k d = rw (e, lt-ltb slice (sliceCount h) k, d)
 
--- a number of a slice, beside the count as the code has it
-pub below-count : {n m slice : ℕ} → n ≡ m → slice < n → slice < m
-below-count e k = omega arith
+-- question 14 about the slice alone
+module _ (slice n : ℕ) (a : Answer View) where
+  pub slice-no : n ≤ slice → asked (ask (ltb slice n) 14 ∷ []) a ≡ refused 14
+  unfolding asked firstNo
+  slice-no k = rw (le-ltb slice n k)
 
-pub above-count : {n m slice : ℕ} → n ≡ m → n ≤ slice → m ≤ slice
-above-count e k = omega arith
+  pub slice-yes : slice < n → asked (ask (ltb slice n) 14 ∷ []) a ≡ a
+  unfolding asked firstNo
+  slice-yes k = rw (lt-ltb slice n k)
 
--- the view of a kind that the code names
-module _ (w h : ℕ) (f : List ℕ) (slice : ℕ) {r : FrameRead} {k : Kind} (e : parseOf w h f ≡ accepted r) (l : slice < sliceCount h) where
-  pub dc-wanted : k ≡ kind.Dc → viewOf w h f (isAc k) slice ≡ kindView false w h f slice
-  dc-wanted d = rw d (view-yes w h f false slice e l refl)
+-- the view of a kind that the code names, n being the slice count as the code has it
+module _ (w h : ℕ) (f : List ℕ) (slice : ℕ) {n : ℕ} {r : FrameRead} (c : n ≡ sliceCount h) (e : parseOf w h f ≡ accepted r) where
+  either : {A : Type 0} → (slice < n → A) → (n ≤ slice → A) → A
+  either {A} below above = go (ltb slice n) refl
+    where
+      go : (b : Bool) → ltb slice n ≡ b → A
+      go true x = below (ltb-true slice n x)
+      go false x = above (ltb-false slice n x)
 
-  pub ac-wanted : k ≡ kind.Ac → r .acThere ≡ true → viewOf w h f (isAc k) slice ≡ kindView true w h f slice
-  ac-wanted d t = rw d (view-yes w h f true slice e l t)
+  beyond : (ac : Bool) → n ≤ slice → viewOf w h f ac slice ≡ refused 14
+  beyond ac g = view-beyond w h f ac slice e (omega arith)
 
-  pub ac-missing : k ≡ kind.Ac → r .acThere ≡ false → viewOf w h f (isAc k) slice ≡ refused 14
-  ac-missing d t = rw d (view-unwanted w h f true slice e l t)
+  kind-view : (ac : Bool) {a : Answer View} → wanted ac r ≡ true → (slice < n → a ≡ kindView ac w h f slice) → asked (ask (ltb slice n) 14 ∷ []) a ≡ viewOf w h f ac slice
+  kind-view ac {a} d v =
+      either
+      (λ l. slice-yes slice n a l ∙ v l ∙ sym (view-yes w h f ac slice e (omega arith) d))
+      (λ g. slice-no slice n a g ∙ sym (beyond ac g))
+
+  pub dc-wanted : {k : Kind} {a : Answer View} → k ≡ kind.Dc → (slice < n → a ≡ kindView false w h f slice) → asked (ask (ltb slice n) 14 ∷ []) a ≡ viewOf w h f (isAc k) slice
+  dc-wanted d v = rw d (kind-view false refl v)
+
+  pub ac-wanted : {k : Kind} {a : Answer View} → k ≡ kind.Ac → r .acThere ≡ true → (slice < n → a ≡ kindView true w h f slice) → asked (ask (ltb slice n) 14 ∷ []) a ≡ viewOf w h f (isAc k) slice
+  ac-wanted d t v = rw d (kind-view true t v)
+
+  pub ac-missing : {k : Kind} → k ≡ kind.Ac → r .acThere ≡ false → refused 14 ≡ viewOf w h f (isAc k) slice
+  ac-missing d t = rw d (sym (either (λ l. view-unwanted w h f true slice e (omega arith) t) (beyond true)))
 
 -- ---- a view lies in the frame
 module _ (f : List ℕ) where

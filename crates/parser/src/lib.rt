@@ -5,13 +5,15 @@ use header::Header;
 use layout::Kind;
 use streams::Place;
 ghost use mathlib.Core.Path.{_≡_};
-ghost use mathlib.Core.Bool.{true, false};
-ghost use Prim.Native.Nat.{_≤_};
+ghost use mathlib.Core.List.{[], _∷_};
+ghost use Prim.Native.Nat.{ℕ, _<_, _≤_};
+ghost use lib.Dec.{ltb};
 ghost use lib.ListN.{length};
-ghost use Rattle.ask.specs.Ask.{numberIn};
+ghost use Rattle.ask.specs.Ask.{accepted, ask, asked, numberIn};
 ghost use Rattle.layout.specs.Views.{isAc};
-ghost use Rattle.header.specs.Header.{Legal};
-ghost use Rattle.parser.specs.Frame.{parseOf, nthStream, kindView, viewOf, viewPart};
+ghost use Rattle.streams.specs.Streams.{streams};
+ghost use Rattle.streams.specs.Views.{placeSays};
+ghost use Rattle.parser.specs.Frame.{parseOf, nthStream, viewOf, viewPart};
 ghost use Rattle.parser.specs.Views.{frameSays, viewSays};
 
 pub enum FrameAnswer {
@@ -50,66 +52,65 @@ pub fn parse(width: usize, height: usize, frame: &[u8]) -> FrameAnswer
     }
 }
 
-// The stream behind n others from p on.
-fn nth_stream(f: &[u8], n: usize, limit: usize, p: usize) -> ViewAnswer
+// The place behind the n streams at p. Notes where the one behind `skip` others begins, if it is one of them.
+fn walk_past(f: &[u8], n: usize, limit: usize, p: usize, skip: usize, noted: &mut usize) -> Place
     requires { ⌜ p ≤ length (now f) ⌝ }
-    ensures { λ r. ⌜ viewSays r ≡ nthStream n limit (now (f .entry)) p ⌝ }
+    ensures { λ r. ⌜ (placeSays r ≡ streams n limit (now (f .entry)) p) × ((e : ℕ) → streams n limit (now (f .entry)) p ≡ accepted e → skip < n → streams skip limit (now (f .entry)) p ≡ accepted (now (noted .exit))) ⌝ }
 {
-    match streams::walk(f, n, limit, p) {
-        Place::Refused(x) => ViewAnswer::Refused(x),
-        Place::At(q) => match streams::one_stream(f, limit, q) {
-            Place::Refused(x) => ViewAnswer::Refused(x),
-            Place::At(e) => ViewAnswer::Part(q + 4, e - (q + 4)),
-        },
+    let k = if skip < n { skip } else { n };
+    match streams::walk(f, k, limit, p) {
+        Place::Refused(x) => Place::Refused(x),
+        Place::At(q) => {
+            *noted = q;
+            streams::walk(f, n - k, limit, q)
+        }
     }
 }
 
-// The DC stream of a slice, in a frame whose header is legal.
-fn dc_view(width: usize, height: usize, frame: &[u8], slice: usize) -> ViewAnswer
-    requires { ⌜ Legal width height (now frame) ⌝ }
-    ensures { λ r. ⌜ viewSays r ≡ kindView false width height (now (frame .entry)) slice ⌝ }
+// The part of the stream at q, which is that of a slice; refused where the slice is none of the n.
+fn part_at(f: &[u8], limit: usize, q: usize, slice: usize, n: usize) -> ViewAnswer
+    requires { ⌜ (slice < n → q ≤ length (now f)) ⌝ }
+    ensures { λ r. ⌜ viewSays r ≡ asked (ask (ltb slice n) 14 ∷ []) (nthStream 0 limit (now (f .entry)) q) ⌝ }
 {
-    let at = header::format_at(frame);
-    nth_stream(frame, slice, layout::max_dc_len(width), at + 3)
-}
-
-// The AC stream of a slice, in a frame whose header is legal.
-fn ac_view(width: usize, height: usize, frame: &[u8], slice: usize) -> ViewAnswer
-    requires { ⌜ Legal width height (now frame) ⌝ }
-    ensures { λ r. ⌜ viewSays r ≡ kindView true width height (now (frame .entry)) slice ⌝ }
-{
-    let at = header::format_at(frame);
-    match streams::walk(
-        frame,
-        layout::slice_count(height),
-        layout::max_dc_len(width),
-        at + 3,
-    ) {
+    if n <= slice {
+        return ViewAnswer::Refused(14);
+    }
+    match streams::one_stream(f, limit, q) {
         Place::Refused(x) => ViewAnswer::Refused(x),
-        Place::At(q) => nth_stream(frame, slice, layout::max_ac_len(width), q),
+        Place::At(e) => ViewAnswer::Part(q + 4, e - (q + 4)),
     }
 }
 
-// Where the DC or AC stream of a slice lies in the frame, and its length.
+// Where the DC or AC stream of a slice lies in the frame, and its length: noted while all streams are judged.
 pub fn view_at(width: usize, height: usize, frame: &[u8], kind: Kind, slice: usize) -> ViewAnswer
     ensures { λ r. ⌜ viewSays r ≡ viewOf width height (now (frame .entry)) (isAc kind) slice ⌝ }
 {
-    match parse(width, height, frame) {
-        FrameAnswer::Refused(x) => ViewAnswer::Refused(x),
-        FrameAnswer::Frame(h) => {
-            if slice < layout::slice_count(height) {
-                match kind {
-                    Kind::Dc => dc_view(width, height, frame, slice),
-                    Kind::Ac => {
-                        if h.ac {
-                            ac_view(width, height, frame, slice)
-                        } else {
-                            ViewAnswer::Refused(14)
-                        }
-                    }
+    let x = header::header_number(width, height, frame);
+    if 0 < x {
+        return ViewAnswer::Refused(x);
+    }
+    let slices = layout::slice_count(height);
+    let at = header::format_at(frame);
+    let max_dc_len = layout::max_dc_len(width);
+    let max_ac_len = layout::max_ac_len(width);
+    let mut dc = 0;
+    let mut ac = 0;
+    match walk_past(frame, slices, max_dc_len, at + 3, slice, &mut dc) {
+        Place::Refused(x) => ViewAnswer::Refused(x),
+        Place::At(q) => {
+            if q < frame.len() {
+                match walk_past(frame, slices, max_ac_len, q, slice, &mut ac) {
+                    Place::Refused(x) => ViewAnswer::Refused(x),
+                    Place::At(_) => match kind {
+                        Kind::Dc => part_at(frame, max_dc_len, dc, slice, slices),
+                        Kind::Ac => part_at(frame, max_ac_len, ac, slice, slices),
+                    },
                 }
             } else {
-                ViewAnswer::Refused(14)
+                match kind {
+                    Kind::Dc => part_at(frame, max_dc_len, dc, slice, slices),
+                    Kind::Ac => ViewAnswer::Refused(14),
+                }
             }
         }
     }
