@@ -29,7 +29,7 @@ passed : (k : tie.After-q) → streams (joined k .if1 .k) (start (joined k) .arg
 passed k = place-told (k .before .before .walk .ensures) (k .q .given .1)
 
 sub-walk : tie.Need-sub-walk
-sub-walk c = below (joined (c .before .before))
+sub-walk c = omega (arith, below (joined (c .before .before)))
 
 walk-requires-2 : tie.Need-walk-requires-2
 walk-requires-2 c κs =
