@@ -32,13 +32,13 @@ slice s = s .args .slice
 
 -- behind the questions: every answer is yes
 abbrev start : tie.Else1 → tie.Start
-start n = n .before .before .before
+start e = e .before .before .before
 
-all-yes : (n : tie.Else1) → firstNo (headerQuestions (w (start n)) (h (start n)) (f (start n))) ≡ 0
-all-yes n = none-is (n .before .header-number .ensures) (n .if1 .left)
+all-yes : (e : tie.Else1) → firstNo (headerQuestions (w (start e)) (h (start e)) (f (start e))) ≡ 0
+all-yes e = none-is (e .before .header-number .ensures) (e .if1 .left)
 
-is-legal : (n : tie.Else1) → Legal (w (start n)) (h (start n)) (f (start n))
-is-legal n = legal (w (start n)) (h (start n)) (f (start n)) (all-yes n)
+is-legal : (e : tie.Else1) → Legal (w (start e)) (h (start e)) (f (start e))
+is-legal e = legal (w (start e)) (h (start e)) (f (start e)) (all-yes e)
 
 returns : tie.Need-returns
 returns c =
@@ -62,8 +62,8 @@ add-walk-past c = header-fits (f (start (c .before .before .before .before))) (c
 
 walk-past-requires : tie.Need-walk-past-requires
 walk-past-requires c κs =
-    let n = c .before .before .before .before .before in
-    begins-inside (f (start n)) (c .before .before .before .format-at .ensures) (is-legal n .five)
+    let e = c .before .before .before .before .before in
+    begins-inside (f (start e)) (c .before .before .before .format-at .ensures) (is-legal e .five)
 
 -- the first walk is over the DC streams
 abbrev counted : tie.After-walk-past → tie.After-slice-count
@@ -71,6 +71,22 @@ counted v = v .before .before .before .before .before
 
 abbrev first : tie.After-walk-past → tie.Start
 first v = start (counted v .before)
+
+-- slice count, limits, where the DC streams begin, and the place noted
+abbrev n : tie.After-walk-past → ℕ
+n v = counted v .slice-count .result
+
+abbrev dc-limit : tie.After-walk-past → ℕ
+dc-limit v = v .before .before .before .max-dc-len .result
+
+abbrev ac-limit : tie.After-walk-past → ℕ
+ac-limit v = v .before .before .max-ac-len .result
+
+abbrev from : tie.After-walk-past → ℕ
+from v = v .before .before .before .before .format-at .result + 3
+
+abbrev dc : tie.After-walk-past → ℕ
+dc v = v .walk-past .last .1 .1 .1 .1 .1 .0
 
 dc-is : (v : tie.After-walk-past) → placeSays (v .walk-past .result) ≡ dcStreams (w (first v)) (h (first v)) (f (first v))
 dc-is v =
@@ -81,8 +97,26 @@ dc-is v =
 abbrev behind : tie.After-q → tie.After-walk-past
 behind k = k .before .before
 
-dc-there : (k : tie.After-q) → dcStreams (w (first (behind k))) (h (first (behind k))) (f (first (behind k))) ≡ accepted (k .q .given .0 .0)
+abbrev q : tie.After-q → ℕ
+q k = k .q .given .0 .0
+
+dc-there : (k : tie.After-q) → dcStreams (w (first (behind k))) (h (first (behind k))) (f (first (behind k))) ≡ accepted (q k)
 dc-there k = place-told (dc-is (behind k)) (k .q .given .1)
+
+dc-noted : (k : tie.After-q) → slice (first (behind k)) < n (behind k) → streams (slice (first (behind k))) (dc-limit (behind k)) (f (first (behind k))) (from (behind k)) ≡ accepted (dc (behind k))
+dc-noted k = behind k .walk-past .ensures .1 _ (place-told (behind k .walk-past .ensures .0) (k .q .given .1))
+
+dc-inner : (k : tie.After-q) → slice (first (behind k)) < n (behind k) → dc (behind k) ≤ length (f (first (behind k)))
+dc-inner k l =
+    let v = behind k in
+    let s = first v in
+    streams-inside (slice s) (dc-limit v) (f s) (from v) (begins-inside (f s) (v .before .before .before .before .format-at .ensures) (is-legal (counted v .before) .five)) (dc-noted k l)
+
+dc-view : (k : tie.After-q) → slice (first (behind k)) < n (behind k) → nthStream 0 (dc-limit (behind k)) (f (first (behind k))) (dc (behind k)) ≡ kindView false (w (first (behind k))) (h (first (behind k))) (f (first (behind k))) (slice (first (behind k)))
+dc-view k l =
+    let v = behind k in
+    let s = first v in
+    dc-nth (w s) (h s) (f s) (slice s) (v .before .before .before .max-dc-len .ensures) (v .before .before .before .before .format-at .ensures) (nth-from (slice s) (dc-limit v) (f s) (from v) (dc-noted k l))
 
 -- the second walk goes on from q, over the AC streams
 abbrev at-q : tie.After-walk-past2 → tie.After-q
@@ -91,68 +125,61 @@ at-q u = u .before .before .before .before
 abbrev second : tie.After-walk-past2 → tie.Start
 second u = first (behind (at-q u))
 
-ac-is : (u : tie.After-walk-past2) → placeSays (u .walk-past2 .result) ≡ streams (sliceCount (h (second u))) (maxAcLen (w (second u))) (f (second u)) (at-q u .q .given .0 .0)
+ac-is : (u : tie.After-walk-past2) → placeSays (u .walk-past2 .result) ≡ streams (sliceCount (h (second u))) (maxAcLen (w (second u))) (f (second u)) (q (at-q u))
 ac-is u =
     let v = behind (at-q u) in
     let s = first v in
-    ac-walk (w s) (h s) (f s) (at-q u .q .given .0 .0) (counted v .slice-count .ensures) (v .before .before .max-ac-len .ensures) (u .walk-past2 .ensures .0)
+    ac-walk (w s) (h s) (f s) (q (at-q u)) (counted v .slice-count .ensures) (v .before .before .max-ac-len .ensures) (u .walk-past2 .ensures .0)
 
--- what the walks noted
-dc-noted : (k : tie.After-q) → slice (first (behind k)) < counted (behind k) .slice-count .result → streams (slice (first (behind k))) (behind k .before .before .before .max-dc-len .result) (f (first (behind k))) (behind k .before .before .before .before .format-at .result + 3) ≡ accepted (behind k .walk-past .last .1 .1 .1 .1 .1 .0)
-dc-noted k l = behind k .walk-past .ensures .1 _ (place-told (behind k .walk-past .ensures .0) (k .q .given .1)) l
+-- which are accepted
+abbrev walked : tie.After-enum-told → tie.After-walk-past2
+walked t = t .before .before
 
-ac-noted : (t : tie.After-enum-told) → slice (second (t .before .before)) < counted (behind (at-q (t .before .before))) .slice-count .result → streams (slice (second (t .before .before))) (behind (at-q (t .before .before)) .before .before .max-ac-len .result) (f (second (t .before .before))) (at-q (t .before .before) .q .given .0 .0) ≡ accepted (t .before .before .walk-past2 .last .1 .1 .1 .1 .1 .0)
-ac-noted t l =
-    let u = t .before .before in
-    u .walk-past2 .ensures .1 _ (place-told (u .walk-past2 .ensures .0) (t .enum-told .given .1)) l
+abbrev both : tie.After-enum-told → tie.After-walk-past
+both t = behind (at-q (walked t))
 
--- the frame is accepted
-both-there : (t : tie.After-enum-told) → parseOf (w (second (t .before .before))) (h (second (t .before .before))) (f (second (t .before .before))) ≡ accepted (frameRead (h (second (t .before .before))) (f (second (t .before .before))) true)
-both-there t =
-    let u = t .before .before in
-    let s = second u in
-    ac-too (w s) (h s) (f s) (all-yes (counted (behind (at-q u)) .before)) (dc-there (at-q u)) (u .before .before .if2 .taken) (place-told (ac-is u) (t .enum-told .given .1))
+abbrev ac : tie.After-enum-told → ℕ
+ac t = walked t .walk-past2 .last .1 .1 .1 .1 .1 .0
 
-dc-alone : (n : tie.Else2) → parseOf (w (first (behind (n .before .before)))) (h (first (behind (n .before .before)))) (f (first (behind (n .before .before)))) ≡ accepted (frameRead (h (first (behind (n .before .before)))) (f (first (behind (n .before .before)))) false)
-dc-alone n =
-    let k = n .before .before in
-    let s = first (behind k) in
-    dc-only (w s) (h s) (f s) (all-yes (counted (behind k) .before)) (dc-there k) (n .if2 .left)
+ac-noted : (t : tie.After-enum-told) → slice (first (both t)) < n (both t) → streams (slice (first (both t))) (ac-limit (both t)) (f (first (both t))) (q (at-q (walked t))) ≡ accepted (ac t)
+ac-noted t =
+    walked t .walk-past2 .ensures .1 _ (place-told (walked t .walk-past2 .ensures .0) (t .enum-told .given .1))
 
--- the views from there on
-dc-view : (k : tie.After-q) → slice (first (behind k)) < counted (behind k) .slice-count .result → nthStream 0 (behind k .before .before .before .max-dc-len .result) (f (first (behind k))) (behind k .walk-past .last .1 .1 .1 .1 .1 .0) ≡ kindView false (w (first (behind k))) (h (first (behind k))) (f (first (behind k))) (slice (first (behind k)))
-dc-view k l =
-    let v = behind k in
-    let s = first v in
-    dc-nth (w s) (h s) (f s) (slice s) (v .before .before .before .max-dc-len .ensures) (v .before .before .before .before .format-at .ensures) (nth-from (slice s) (v .before .before .before .max-dc-len .result) (f s) (v .before .before .before .before .format-at .result + 3) (dc-noted k l))
-
-ac-view : (t : tie.After-enum-told) → slice (second (t .before .before)) < counted (behind (at-q (t .before .before))) .slice-count .result → nthStream 0 (behind (at-q (t .before .before)) .before .before .max-ac-len .result) (f (second (t .before .before))) (t .before .before .walk-past2 .last .1 .1 .1 .1 .1 .0) ≡ kindView true (w (second (t .before .before))) (h (second (t .before .before))) (f (second (t .before .before))) (slice (second (t .before .before)))
+ac-view : (t : tie.After-enum-told) → slice (first (both t)) < n (both t) → nthStream 0 (ac-limit (both t)) (f (first (both t))) (ac t) ≡ kindView true (w (first (both t))) (h (first (both t))) (f (first (both t))) (slice (first (both t)))
 ac-view t l =
-    let k = at-q (t .before .before) in
-    let v = behind k in
+    let k = at-q (walked t) in
+    let v = both t in
     let s = first v in
-    ac-nth (w s) (h s) (f s) (slice s) (k .q .given .0 .0) (v .before .before .max-ac-len .ensures) (nth-from (slice s) (v .before .before .max-ac-len .result) (f s) (k .q .given .0 .0) (ac-noted t l)) (dc-there k)
+    ac-nth (w s) (h s) (f s) (slice s) (q k) (v .before .before .max-ac-len .ensures) (nth-from (slice s) (ac-limit v) (f s) (q k) (ac-noted t l)) (dc-there k)
 
-dc-held : (k : tie.After-q) → slice (first (behind k)) < counted (behind k) .slice-count .result → behind k .walk-past .last .1 .1 .1 .1 .1 .0 ≤ length (f (first (behind k)))
-dc-held k l =
-    let v = behind k in
+-- the frame is accepted, with AC and without
+with-ac : (t : tie.After-enum-told) → parseOf (w (first (both t))) (h (first (both t))) (f (first (both t))) ≡ accepted (frameRead (h (first (both t))) (f (first (both t))) true)
+with-ac t =
+    let u = walked t in
+    let s = second u in
+    ac-too (w s) (h s) (f s) (all-yes (counted (both t) .before)) (dc-there (at-q u)) (u .before .before .if2 .taken) (place-told (ac-is u) (t .enum-told .given .1))
+
+abbrev only : tie.Else2 → tie.After-q
+only e = e .before .before
+
+without : (e : tie.Else2) → parseOf (w (first (behind (only e)))) (h (first (behind (only e)))) (f (first (behind (only e)))) ≡ accepted (frameRead (h (first (behind (only e)))) (f (first (behind (only e)))) false)
+without e =
+    let v = behind (only e) in
     let s = first v in
-    streams-inside (slice s) (v .before .before .before .max-dc-len .result) (f s) (v .before .before .before .before .format-at .result + 3) (begins-inside (f s) (v .before .before .before .before .format-at .ensures) (is-legal (counted v .before) .five)) (dc-noted k l)
+    dc-only (w s) (h s) (f s) (all-yes (counted v .before)) (dc-there (only e)) (e .if2 .left)
 
 part-at-requires : tie.Need-part-at-requires
-part-at-requires c κs = dc-held (at-q (c .before .before .before .before))
+part-at-requires c κs = dc-inner (at-q (walked (c .before .before)))
 
 part-at-requires-2 : tie.Need-part-at-requires-2
 part-at-requires-2 c κs l =
     let t = c .before .before in
-    let u = t .before .before in
-    let k = at-q u in
-    let v = behind k in
-    let s = first v in
-    streams-inside (slice s) (v .before .before .max-ac-len .result) (f s) (k .q .given .0 .0) (dc-inside (w s) (h s) (f s) (is-legal (counted v .before) .five) (dc-there k)) (ac-noted t l)
+    let k = at-q (walked t) in
+    let s = first (both t) in
+    streams-inside (slice s) (ac-limit (both t)) (f s) (q k) (dc-inside (w s) (h s) (f s) (is-legal (counted (both t) .before) .five) (dc-there k)) (ac-noted t l)
 
 part-at-requires-3 : tie.Need-part-at-requires-3
-part-at-requires-3 c κs = dc-held (c .before .before .before .before)
+part-at-requires-3 c κs = dc-inner (only (c .before .before))
 
 returns-2 : tie.Need-returns-2
 returns-2 c =
@@ -173,33 +200,31 @@ returns-3 c =
 returns-4 : tie.Need-returns-4
 returns-4 c =
     let t = c .before .before .before in
-    let k = at-q (t .before .before) in
-    let s = first (behind k) in
+    let s = first (both t) in
     c .part-at .ensures
-    ∙ dc-wanted (w s) (h s) (f s) (slice s) (counted (behind k) .slice-count .ensures) (both-there t) (c .before .enum-told2 .given .1) (dc-view k)
+    ∙ dc-wanted (w s) (h s) (f s) (slice s) (counted (both t) .slice-count .ensures) (with-ac t) (c .before .enum-told2 .given .1) (dc-view (at-q (walked t)))
 
 returns-5 : tie.Need-returns-5
 returns-5 c =
     let t = c .before .before .before in
-    let k = at-q (t .before .before) in
-    let s = first (behind k) in
+    let s = first (both t) in
     c .part-at2 .ensures
-    ∙ ac-wanted (w s) (h s) (f s) (slice s) (counted (behind k) .slice-count .ensures) (both-there t) (c .before .enum-told3 .given .1) refl (ac-view t)
+    ∙ ac-wanted (w s) (h s) (f s) (slice s) (counted (both t) .slice-count .ensures) (with-ac t) (c .before .enum-told3 .given .1) refl (ac-view t)
 
 returns-6 : tie.Need-returns-6
 returns-6 c =
-    let n = c .before .before .before in
-    let k = n .before .before in
-    let s = first (behind k) in
+    let e = c .before .before .before in
+    let v = behind (only e) in
+    let s = first v in
     c .part-at3 .ensures
-    ∙ dc-wanted (w s) (h s) (f s) (slice s) (counted (behind k) .slice-count .ensures) (dc-alone n) (c .before .enum-told4 .given .1) (dc-view k)
+    ∙ dc-wanted (w s) (h s) (f s) (slice s) (counted v .slice-count .ensures) (without e) (c .before .enum-told4 .given .1) (dc-view (only e))
 
 returns-7 : tie.Need-returns-7
 returns-7 c =
-    let n = c .before .before in
-    let k = n .before .before in
-    let s = first (behind k) in
-    ac-missing (w s) (h s) (f s) (slice s) (counted (behind k) .slice-count .ensures) (dc-alone n) (c .enum-told5 .given .1) refl
+    let e = c .before .before in
+    let v = behind (only e) in
+    let s = first v in
+    ac-missing (w s) (h s) (f s) (slice s) (counted v .slice-count .ensures) (without e) (c .enum-told5 .given .1) refl
 
 pub view-at-spec : {M : Type 1} → statement M
 view-at-spec =
