@@ -1,6 +1,8 @@
 #!/usr/bin/env bash
-# Instructions a plane takes (stride 1,920, preset 8), ours against the Rust's SSE2 path, counted by callgrind: repeatable
-# whatever the machine is doing, so that a change that loses vector code is seen. MARGINS are in hundredths of the Rust's.
+# Instructions that a plane takes (stride 1,920, preset 8), or a frame of 136 streams, ours against the Rust's SSE2 path,
+# counted by callgrind: repeatable whatever the machine is doing, so that a change that loses vector code is seen. The
+# margins are in hundredths of the Rust's. (A frame built: where the processor has it, the Rust's memcpy of a long stream is
+# one rep movsb, which is counted by the byte. A copy in a loop over bytes would have some 500.)
 set -euo pipefail
 cd "$(dirname "$0")/.."
 oracle=oracle/target/release/oracle
@@ -8,7 +10,7 @@ if ! command -v valgrind >/dev/null; then
     echo "instructions: valgrind is not installed, nothing is counted"
     exit 0
 fi
-# The cost of one more plane: eleven less one, over ten.
+# The cost of one more turn: eleven less one, over ten.
 count() {
     local n all=()
     for n in 1 11; do
@@ -29,4 +31,9 @@ code8 80
 code10 80
 read8 100
 read10 88
+preview 90
+report 72
+parse 60
+streams 85
+build 200
 TABLE
