@@ -1,6 +1,6 @@
 //! Symbols, and transforms with their quantisers: the parts of a plane's time.
 
-use super::{content, row};
+use super::{content, Table};
 use crate::gen::Rng;
 use crate::ours;
 use reference::api::bits::{AcSymbol, Cursor, Writer};
@@ -10,7 +10,7 @@ use std::cell::RefCell;
 use std::hint::black_box;
 
 /// Symbols written and read: runs with values as planes have them.
-pub fn symbols() {
+pub fn symbols(t: &mut Table) {
     const N: usize = 100_000;
     let mut rng = Rng::new(7);
     let runs: Vec<u32> = (0..N).map(|_| if rng.once_in(2) { 0 } else { rng.below(12) as u32 }).collect();
@@ -27,7 +27,7 @@ pub fn symbols() {
         w.align();
         black_box(w.bytes());
     };
-    row("symbol written (run and value)", N, &mut [&mut ours, &mut rust]);
+    t.row("symbol written (run and value)", N, &mut [&mut ours, &mut rust]);
 
     let end = ours::bits::write_pairs(&runs, &codes, 0, &mut out);
     let s = &out[..end];
@@ -51,11 +51,11 @@ pub fn symbols() {
         }
         black_box(&room);
     };
-    row("AC symbol read", count, &mut [&mut ours, &mut rust]);
+    t.row("AC symbol read", count, &mut [&mut ours, &mut rust]);
 }
 
 /// Transforms with quantiser, of a row of blocks.
-pub fn blocks() {
+pub fn blocks(t: &mut Table) {
     const STRIDE: usize = 1920;
     const N: usize = STRIDE / 8;
     let preset = 8;
@@ -70,7 +70,7 @@ pub fn blocks() {
         }
     });
     let name = "forward transform, quantiser and scan of a block, 8-bit";
-    row(name, N, &mut [&mut ours, &mut sse2, &mut portable]);
+    t.row(name, N, &mut [&mut ours, &mut sse2, &mut portable]);
     let mut ours = || ours::dct::forward_row16(black_box(&ten), STRIDE, preset, &mut z);
     let [mut sse2, mut portable] = PATHS.map(|path| {
         let (rows, q) = (&ten, &q);
@@ -78,7 +78,7 @@ pub fn blocks() {
             black_box(dct::forward_row(path, black_box(rows), STRIDE, Depth::Ten, &q.encode, -512));
         }
     });
-    row("the same, 10-bit", N, &mut [&mut ours, &mut sse2, &mut portable]);
+    t.row("forward transform, quantiser and scan of a block, 10-bit", N, &mut [&mut ours, &mut sse2, &mut portable]);
 
     let nat: [i16; 64] = core::array::from_fn(|i| if i % 5 == 0 { 40 - i as i16 } else { 0 });
     let rows = RefCell::new(eight.clone());
@@ -93,7 +93,7 @@ pub fn blocks() {
         }
     });
     let name = "dequantising, inverse transform and store of a block, 8-bit";
-    row(name, N, &mut [&mut ours, &mut sse2, &mut portable]);
+    t.row(name, N, &mut [&mut ours, &mut sse2, &mut portable]);
     let rows = RefCell::new(ten.clone());
     let mut ours = || ours::dct::inverse_row16(black_box(&nat), preset, &mut rows.borrow_mut(), STRIDE);
     let [mut sse2, mut portable] = PATHS.map(|path| {
@@ -105,5 +105,5 @@ pub fn blocks() {
             }
         }
     });
-    row("the same, 10-bit", N, &mut [&mut ours, &mut sse2, &mut portable]);
+    t.row("dequantising, inverse transform and store of a block, 10-bit", N, &mut [&mut ours, &mut sse2, &mut portable]);
 }

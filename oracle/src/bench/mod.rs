@@ -16,7 +16,9 @@ use std::hint::black_box;
 use std::process::ExitCode;
 use std::time::{Duration, Instant};
 
-/// Rounds at least, how often a side runs in each of them, and how long a row takes at least.
+/// How often all rows are gone through, so that a disturbance of a second meets a row once; in each lap, rounds at least, how
+/// often a side runs in each of them, and how long a row takes at least.
+const LAPS: usize = 3;
 const ROUNDS: usize = 15;
 const TURNS: usize = 5;
 const ROW: Duration = Duration::from_millis(200);
@@ -26,24 +28,28 @@ const DEPTHS: usize = 15;
 
 /// All parts, or those that are named.
 pub fn run(parts: &[&str]) -> ExitCode {
-    println!("ns each, best of {ROUNDS} rounds or more of {TURNS} turns; ratio: ours over the column before it");
-    println!("No buffer is cleared before a turn. The Rust's coding also grows its vectors; its `write` makes a new one.\n");
-    println!("| | ours | SSE2 | ratio | portable | ratio |");
-    println!("|---|---|---|---|---|---|");
-    let all: [(&str, fn()); 5] = [
+    let all: [(&str, fn(&mut Table)); 5] = [
         ("symbols", blocks::symbols),
         ("blocks", blocks::blocks),
-        ("8-bit", || planes::calls::<u8>("8-bit")),
-        ("10-bit", || planes::calls::<u16>("10-bit")),
+        ("8-bit", |t| planes::calls::<u8>(t, "8-bit")),
+        ("10-bit", |t| planes::calls::<u16>(t, "10-bit")),
         ("frames", frames::frames),
     ];
-    for (name, part) in all {
-        if parts.is_empty() || parts.contains(&name) {
-            part();
+    let mut table = Table { lap: 0, rows: Vec::new() };
+    for lap in 0..LAPS {
+        table.lap = lap;
+        for (name, part) in all {
+            if parts.is_empty() || parts.contains(&name) {
+                part(&mut table);
+            }
         }
     }
+    println!("ns each, best of {} rounds or more of {TURNS} turns; ratio: ours over the column before it", LAPS * ROUNDS);
+    println!("No buffer is cleared before a turn. The Rust's coding also grows its vectors.\n");
+    table.print();
     ExitCode::SUCCESS
 }
+
 /// The time of one turn, n steps deeper on the stack.
 #[inline(never)]
 fn deeper(n: usize, side: &mut dyn FnMut()) -> Duration {
@@ -59,29 +65,48 @@ fn deeper(n: usize, side: &mut dyn FnMut()) -> Duration {
     time
 }
 
-/// One row of the table: the least time of one of `items`, ours, the Rust's and, where it differs, its portable path's.
-fn row(name: &str, items: usize, sides: &mut [&mut dyn FnMut()]) {
-    let mut least = vec![f64::MAX; sides.len()];
-    let (mut rounds, begin) = (0, Instant::now());
-    while rounds < ROUNDS || begin.elapsed() < ROW {
-        rounds += 1;
-        for (side, least) in sides.iter_mut().zip(&mut least) {
-            for _ in 0..TURNS {
-                let time = deeper(rounds % DEPTHS, side);
-                *least = least.min(time.as_nanos() as f64 / items as f64);
+/// Each row's name and least times: ours, the Rust's and, where it differs, its portable path's.
+pub struct Table {
+    lap: usize,
+    rows: Vec<(String, Vec<f64>)>,
+}
+
+impl Table {
+    /// One lap of a row: the time of one of `items`.
+    fn row(&mut self, name: &str, items: usize, sides: &mut [&mut dyn FnMut()]) {
+        let at = self.rows.iter().position(|r| r.0 == name).unwrap_or_else(|| {
+            self.rows.push((name.to_string(), vec![f64::MAX; sides.len()]));
+            self.rows.len() - 1
+        });
+        let (mut rounds, begin) = (0, Instant::now());
+        while rounds < ROUNDS || begin.elapsed() < ROW {
+            rounds += 1;
+            for (side, least) in sides.iter_mut().zip(&mut self.rows[at].1) {
+                for _ in 0..TURNS {
+                    let time = deeper(rounds % DEPTHS, side);
+                    *least = least.min(time.as_nanos() as f64 / items as f64);
+                }
             }
         }
     }
-    let ours = least[0];
-    print!("| {name} | {ours:.1}");
-    for at in 1..3 {
-        match least.get(at) {
-            Some(rust) => print!(" | {rust:.1} | {:.2}", ours / rust),
-            None => print!(" | - | -"),
+
+    fn print(&self) {
+        println!("| | ours | SSE2 | ratio | portable | ratio |");
+        println!("|---|---|---|---|---|---|");
+        for (name, least) in &self.rows {
+            let ours = least[0];
+            print!("| {name} | {ours:.1}");
+            for at in 1..3 {
+                match least.get(at) {
+                    Some(rust) => print!(" | {rust:.1} | {:.2}", ours / rust),
+                    None => print!(" | - | -"),
+                }
+            }
+            println!(" |");
         }
     }
-    println!(" |");
 }
+
 /// A plane whose left half is smooth and whose right half has noise of a quarter of the range.
 fn content<T: Made>(stride: usize) -> Plane<T> {
     let mut rng = Rng::new(11);

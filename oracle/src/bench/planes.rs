@@ -1,6 +1,6 @@
 //! Planes and slices coded and read, previews and block reports: the exported calls.
 
-use super::{content, row};
+use super::{content, Table};
 use crate::calls::{Buffers, Calls, Plane, PlaneCoder, Rust};
 use crate::gen::planes::Made;
 use crate::ours::planes::OURS;
@@ -14,18 +14,18 @@ use std::hint::black_box;
 const WIDE: usize = 7680;
 
 /// Planes and slices coded and read, previews, block reports: ns a block.
-pub fn calls<T: Made>(depth: &str) {
+pub fn calls<T: Made>(t: &mut Table, depth: &str) {
     for (stride, presets) in [(1920, &[0, 8, 24][..]), (64, &[8]), (WIDE, &[8])] {
         let planes = cut(&content::<T>(WIDE), stride);
         for preset in presets {
-            coding(&format!("{depth}, stride {stride}, preset {preset}"), Settings { preset: *preset, dc_shift: 0 }, &planes);
+            coding(t, &format!("{depth}, stride {stride}, preset {preset}"), Settings { preset: *preset, dc_shift: 0 }, &planes);
         }
         for preset in presets {
-            reading(&format!("{depth}, stride {stride}, preset {preset}"), Settings { preset: *preset, dc_shift: 0 }, &planes);
+            reading(t, &format!("{depth}, stride {stride}, preset {preset}"), Settings { preset: *preset, dc_shift: 0 }, &planes);
         }
     }
-    slices::<T>(depth);
-    alone::<T>(depth);
+    slices::<T>(t, depth);
+    alone::<T>(t, depth);
 }
 
 /// A plane in parts of a stride, from left to right.
@@ -44,7 +44,7 @@ pub fn room(stride: usize) -> Buffers {
     Buffers { dc: vec![0; n], dc_at: 0, ac: vec![0; m], ac_at: 0 }
 }
 
-fn coding<T: Made>(name: &str, settings: Settings, planes: &[Plane<T>]) {
+fn coding<T: Made>(t: &mut Table, name: &str, settings: Settings, planes: &[Plane<T>]) {
     let mut b = room(planes[0].1);
     let mut ours = || {
         for plane in planes {
@@ -57,7 +57,7 @@ fn coding<T: Made>(name: &str, settings: Settings, planes: &[Plane<T>]) {
         let rust = Rust::new(path);
         move || planes.iter().for_each(|plane| drop(black_box(rust.streams(settings, plane))))
     });
-    row(&format!("block coded, {name}"), blocks(planes), &mut [&mut ours, &mut sse2, &mut portable]);
+    t.row(&format!("block coded, {name}"), blocks(planes), &mut [&mut ours, &mut sse2, &mut portable]);
 }
 
 /// The streams end where the plane's last code does, as in a frame.
@@ -70,7 +70,7 @@ pub fn coded<T: Made>(settings: Settings, planes: &[Plane<T>]) -> Buffers {
     b
 }
 
-fn reading<T: Made>(name: &str, settings: Settings, planes: &[Plane<T>]) {
+fn reading<T: Made>(t: &mut Table, name: &str, settings: Settings, planes: &[Plane<T>]) {
     let b: Vec<Buffers> = planes.iter().map(|plane| coded(settings, std::slice::from_ref(plane))).collect();
     let (mut own, rows) = (b.clone(), RefCell::new(planes.to_vec()));
     let mut ours = || {
@@ -87,7 +87,7 @@ fn reading<T: Made>(name: &str, settings: Settings, planes: &[Plane<T>]) {
             }
         }
     });
-    row(&format!("block read, {name}"), blocks(planes), &mut [&mut ours, &mut sse2, &mut portable]);
+    t.row(&format!("block read, {name}"), blocks(planes), &mut [&mut ours, &mut sse2, &mut portable]);
 }
 
 /// The planes of a slice, 4:2:2.
@@ -96,7 +96,7 @@ pub fn three_planes<T: Made>() -> Vec<Plane<T>> {
 }
 
 /// A slice of three planes.
-fn slices<T: Made>(depth: &str) {
+fn slices<T: Made>(t: &mut Table, depth: &str) {
     let settings = Settings { preset: 8, dc_shift: 0 };
     let planes = three_planes::<T>();
     let blocks = blocks(&planes);
@@ -110,7 +110,7 @@ fn slices<T: Made>(depth: &str) {
         move || planes.iter().for_each(|p| drop(black_box(rust.streams(settings, p))))
     });
     let name = format!("block of a slice of three planes coded, {depth}, preset 8");
-    row(&name, blocks, &mut [&mut ours, &mut sse2, &mut portable]);
+    t.row(&name, blocks, &mut [&mut ours, &mut sse2, &mut portable]);
     let b = coded(settings, &planes);
     let (mut own, rows) = (b.clone(), RefCell::new(planes.clone()));
     let mut ours = || {
@@ -127,17 +127,17 @@ fn slices<T: Made>(depth: &str) {
         }
     });
     let name = format!("block of a slice of three planes read, {depth}, preset 8");
-    row(&name, blocks, &mut [&mut ours, &mut sse2, &mut portable]);
+    t.row(&name, blocks, &mut [&mut ours, &mut sse2, &mut portable]);
 }
 
 /// Previews and block reports: one stream alone. The Rust has no report; beside ours stands its cursor under document 01's rule.
-fn alone<T: Made>(depth: &str) {
+fn alone<T: Made>(t: &mut Table, depth: &str) {
     let plane = RefCell::new(Streams::new::<T>());
     let rust = Rust::new(PATHS[0]);
     let (mut ours, mut theirs) = (|| plane.borrow_mut().previewed(), || plane.borrow_mut().previewed_by_rust(&rust));
-    row(&format!("block previewed, {depth}"), 480, &mut [&mut ours, &mut theirs]);
+    t.row(&format!("block previewed, {depth}"), 480, &mut [&mut ours, &mut theirs]);
     let (mut ours, mut theirs) = (|| plane.borrow_mut().reported(&OURS), || plane.borrow_mut().reported(&rust));
-    row(&format!("block reported, {depth}"), 480, &mut [&mut ours, &mut theirs]);
+    t.row(&format!("block reported, {depth}"), 480, &mut [&mut ours, &mut theirs]);
 }
 
 /// A plane's streams, and room for its preview and its report.

@@ -70,7 +70,7 @@ fn alone(path: Option<Path>, what: &str) -> Box<dyn FnMut()> {
 }
 
 fn framing(path: Option<Path>, what: &str) -> Box<dyn FnMut()> {
-    let mut frame = Frame::new();
+    let mut frame = Frame::new(0);
     match (path, what) {
         (Some(_), "build") => Box::new(move || frame.built_by_rust()),
         (Some(_), _) => Box::new(move || frame.parsed_by_rust()),

@@ -88,6 +88,19 @@ pub fn write(
     ac: &[Vec<u8>],
 ) -> Vec<u8> {
     let mut out = Vec::new();
-    crate::layout::write(&mut out, &layout.0, interlaced, quality, dc_shift, dc, ac);
+    write_into(&mut out, layout, interlaced, quality, dc_shift, dc, ac);
     out
+}
+
+/// The same, behind what the vector has.
+pub fn write_into(
+    out: &mut Vec<u8>,
+    layout: &Layout,
+    interlaced: bool,
+    quality: i32,
+    dc_shift: u32,
+    dc: &[Vec<u8>],
+    ac: &[Vec<u8>],
+) {
+    crate::layout::write(out, &layout.0, interlaced, quality, dc_shift, dc, ac);
 }
