@@ -3,11 +3,11 @@ use mathlib.Core.List.{List}
 use Prim.Native.Nat.{ℕ, _+_, _*_, _/_, _%_}
 use lib.IntN.{ℤ}
 use Rattle.scalar.specs.Tab.{tab}
-use Rattle.frow.specs.Rows.{tableAt}
+use Rattle.frow.specs.Rows.{tableAt, entryOf}
 
--- the rows' tables in parts: eight entries of each row, from 8 q on
-abbrev pub partAt : ℕ → ℕ → ℤ
-partAt q i = tableAt (i / 8) (8 * q + i % 8)
+-- of each row, two numbers for each of the coefficients 2 j + o: those for the lanes near it (f is 0), or for the rest (1)
+abbrev pub partAt : ℕ → ℕ → ℕ → ℤ
+partAt o f i = tableAt (i / 8) (entryOf (2 * (i / 2 % 4) + o) + 8 * f + i % 2)
 
-unfoldable pub tablePart : ℕ → List ℤ
-tablePart q = tab 64 (partAt q)
+unfoldable pub tablePart : ℕ → ℕ → List ℤ
+tablePart o f = tab 64 (partAt o f)

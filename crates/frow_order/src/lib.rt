@@ -2,7 +2,8 @@
 // Pair sums fill one array and are added in the next loop: two of them added in one expression would lose the vector form.
 // The Rust's shuffles gave way to loops over whole blocks, which the compiler turns into the same vector instructions.
 ghost use mathlib.Core.Path.{_≡_};
-ghost use Rattle.frow_order.specs.Order.{mirrorOf, sumsOf, diffsOf, weaveOf, sidesOf, swapOf, pairsOf, halfOf, joinOf};
+ghost use Prim.Native.Nat.{_≤_};
+ghost use Rattle.frow_order.specs.Order.{mirrorOf, sumsOf, diffsOf, spreadOf, pairsOf, halfOf, joinOf};
 use frow_tail::tail;
 use scalar::adds1;
 use scalar::madd1;
@@ -43,50 +44,28 @@ pub fn diffs(c: [i16; 64], z: [i16; 64]) -> [i16; 64]
     x
 }
 
-// Two lanes of s and two of d in turn, from the left half of each row.
-pub fn weave(s: [i16; 64], d: [i16; 64]) -> [i16; 64]
-    ensures { λ r. ⌜ r ≡ weaveOf s d ⌝ }
+// The left half of each row twice, from place `from` on: from place 2 on, its two pairs stand swapped.
+pub fn spread(a: [i16; 64], from: usize) -> [i16; 64]
+    requires { ⌜ from ≤ 2 ⌝ }
+    ensures { λ r. ⌜ r ≡ spreadOf a from ⌝ }
 {
     let mut x = [0i16; 64];
     for r in 0..8 {
         for k in 0..8 {
-            let n = 8 * r + 2 * (k / 4) + k % 2;
-            x[8 * r + k] = if k / 2 % 2 == 0 { s[n] } else { d[n] };
+            x[8 * r + k] = a[8 * r + (k + from) % 4];
         }
     }
     x
 }
 
-// Sums and differences of opposite lanes of each row.
-pub fn sides(c: [i16; 64]) -> [i16; 64]
-    ensures { λ r. ⌜ r ≡ sidesOf c ⌝ }
-{
-    let z = mirror(c);
-    let s = sums(c, z);
-    let d = diffs(c, z);
-    weave(s, d)
-}
-
-// The halves of each row, swapped.
-pub fn swap(c: [i16; 64]) -> [i16; 64]
-    ensures { λ r. ⌜ r ≡ swapOf c ⌝ }
-{
-    let mut x = [0i16; 64];
-    for r in 0..8 {
-        for k in 0..8 {
-            x[8 * r + k] = c[8 * r + (k + 4) % 8];
-        }
-    }
-    x
-}
-
-// Products of neighbours, added in pairs.
+// Products of neighbours, added in pairs. The second product stands first: so the compiler takes both factors as they lie side
+// by side (pmaddwd).
 pub fn pairs(x: [i16; 64], t: [i16; 64]) -> [i32; 32]
     ensures { λ r. ⌜ r ≡ pairsOf x t ⌝ }
 {
     let mut m = [0i32; 32];
     for i in 0..32 {
-        m[i] = madd1(x[2 * i], t[2 * i], x[2 * i + 1], t[2 * i + 1]);
+        m[i] = madd1(x[2 * i + 1], t[2 * i + 1], x[2 * i], t[2 * i]);
     }
     m
 }
@@ -102,15 +81,15 @@ pub fn half(m: [i32; 32], n: [i32; 32]) -> [i16; 32]
     w
 }
 
-// Four coefficients of each row from lo, the other four from hi.
-pub fn join(lo: [i16; 32], hi: [i16; 32]) -> [i16; 64]
-    ensures { λ r. ⌜ r ≡ joinOf lo hi ⌝ }
+// Coefficients from `even` and from `odd` in turn.
+pub fn join(even: [i16; 32], odd: [i16; 32]) -> [i16; 64]
+    ensures { λ r. ⌜ r ≡ joinOf even odd ⌝ }
 {
     let mut w = [0i16; 64];
     for r in 0..8 {
         for k in 0..8 {
-            let p = 4 * r + k % 4;
-            w[8 * r + k] = if k < 4 { lo[p] } else { hi[p] };
+            let p = 4 * r + k / 2;
+            w[8 * r + k] = if k % 2 == 0 { even[p] } else { odd[p] };
         }
     }
     w

@@ -1,7 +1,7 @@
 -- `frow_order::diffs` fills the places in order. Assumes nothing.
 use borrow.Author.Needs.{needs, sfits-of}
-use mathlib.Core.Path.{_≡_, refl, ap, _∙_}
-use Prim.Native.Nat.{_+_, _-_, _*_, _/_, _%_}
+use mathlib.Core.Path.{refl}
+use Prim.Native.Nat.{_-_}
 use native.Mathlib.Omega.{arith}
 use Rattle.scalar.specs.Scalar.{subsOf}
 use Rattle.scalar.proofs.Fill.{Filled, filled-next, filled-done}

@@ -1,9 +1,8 @@
 -- `frow_order::half` fills the places in order. Assumes nothing.
 use borrow.Author.Needs.{needs, sfits-of}
-use mathlib.Core.Path.{_≡_, refl, ap, _∙_}
-use Prim.Native.Nat.{_+_, _-_, _*_, _/_, _%_}
+use mathlib.Core.Path.{refl}
+use Prim.Native.Nat.{_-_}
 use native.Mathlib.Omega.{arith}
-use mir.Facts.{toZ-ofZ}
 use Rattle.scalar.proofs.Fill.{Filled, filled-next, filled-done}
 use Rattle.scalar.proofs.Laws.{lane2}
 use Rattle.frow_tail.specs.Tail.{tailOf}

@@ -1,6 +1,6 @@
 -- `frow_order::join` fills the places in order, row by row. Assumes nothing.
-use borrow.Author.Needs.{needs, sfits-of}
-use mathlib.Core.Path.{_≡_, refl, ap, _∙_}
+use borrow.Author.Needs.{sfits-of}
+use mathlib.Core.Path.{refl, ap, _∙_}
 use mathlib.Core.Logic.{⊎-elim}
 use mir.Syntax.{w16}
 use mir.Val.{toZ}
@@ -10,21 +10,21 @@ use mir.Facts.{toZ-ofZ}
 use Rattle.scalar.proofs.Fill.{Filled}
 use Rattle.scalar.proofs.InRows.{InRow, row-begins, row-next, row-ends, rows-done}
 use Rattle.frow_order.specs.Order.{joinAt, joinOf}
-use Rattle.frow_order.proofs.Places.{low-place, high-place}
+use Rattle.frow_order.proofs.Places.{even-place, odd-place}
 use Rattle.frow_order.proofs.join.Statement.{statement}
 use Rattle.frow_order.proofs.join.Tie as tie
 
 abbrev Inv-loop2 : tie.InvT-loop2
-Inv-loop2 lo hi w₀ r k₀ w k = InRow (joinAt lo hi) w r k
+Inv-loop2 even odd w₀ r k₀ w k = InRow (joinAt even odd) w r k
 
 abbrev μ-loop2 : tie.MeasureT-loop2
-μ-loop2 lo hi w₀ r k₀ w k = 8 - k
+μ-loop2 even odd w₀ r k₀ w k = 8 - k
 
 abbrev Inv-loop : tie.InvT-loop
-Inv-loop lo hi w₀ r₀ w r = Filled 64 (joinAt lo hi) w (8 * r)
+Inv-loop even odd w₀ r₀ w r = Filled 64 (joinAt even odd) w (8 * r)
 
 abbrev μ-loop : tie.MeasureT-loop
-μ-loop lo hi w₀ r₀ w r = 8 - r
+μ-loop even odd w₀ r₀ w r = 8 - r
 
 loop2-holds : tie.Need-loop2-holds Inv-loop2 μ-loop2 Inv-loop μ-loop
 loop2-holds c =
@@ -40,12 +40,12 @@ loop2-again c =
     let r = l .loop .r in
     let k = j .loop2 .k in
     let h = i .loop2-test .taken in
-    let lo = l .before .args .t1 in
-    let hi = l .before .args .t2 in
-    row-next (joinAt lo hi) (j .loop2 .w) r k (o .loop-test .taken) h (j .loop2 .inv)
+    let even = l .before .args .t1 in
+    let odd = l .before .args .t2 in
+    row-next (joinAt even odd) (j .loop2 .w) r k (o .loop-test .taken) h (j .loop2 .inv)
     (⊎-elim
-    (λ w. ap (toZ w16) (w .2) ∙ toZ-ofZ (sfits-of (w .1 .given)) ∙ low-place lo hi r k (w .0 .taken))
-    (λ w. ap (toZ w16) (w .2) ∙ toZ-ofZ (sfits-of (w .1 .given)) ∙ high-place lo hi r k (w .0 .left) h)
+    (λ w. ap (toZ w16) (w .2) ∙ toZ-ofZ (sfits-of (w .1 .given)) ∙ even-place even odd r k (w .0 .taken))
+    (λ w. ap (toZ w16) (w .2) ∙ toZ-ofZ (sfits-of (w .1 .given)) ∙ odd-place even odd r k (w .0 .left))
     (c .if1 .came))
 
 loop-again : tie.Need-loop-again Inv-loop2 μ-loop2 Inv-loop μ-loop

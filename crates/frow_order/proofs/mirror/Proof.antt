@@ -1,6 +1,6 @@
 -- `frow_order::mirror` fills the places in order, row by row. Assumes nothing.
-use borrow.Author.Needs.{needs, sfits-of}
-use mathlib.Core.Path.{_≡_, refl, ap, _∙_}
+use borrow.Author.Needs.{sfits-of}
+use mathlib.Core.Path.{refl, _∙_}
 use Prim.Native.Nat.{_-_, _*_}
 use native.Mathlib.Omega.{arith}
 use mir.Facts.{toZ-ofZ}
