@@ -27,8 +27,8 @@ while read -r what margin; do
     echo "instructions: $what: ours $ours, the Rust $rust, $hundredths of 100 (at most $margin)"
     [ "$hundredths" -le "$margin" ] || { echo "instructions: $what takes too many"; exit 1; }
 done <<'TABLE'
-code8 80
-code10 80
+code8 76
+code10 76
 read8 100
 read10 88
 preview 90
