@@ -1,6 +1,6 @@
 // The walks over all streams of a frame, DC and AC, with the views stored in a lent table.
 use streams::Place;
-ghost use Prim.Native.Nat.{_≤_};
+ghost use Prim.Native.Nat.{_*_, _≤_};
 ghost use lib.ListN.{length};
 ghost use Rattle.layout.specs.Geometry.{sliceCount};
 ghost use Rattle.bothwalks.specs.Views.{walkedSays, Tabled, Walkable, Holds};
@@ -37,8 +37,23 @@ fn walk(width: usize, height: usize, frame: &[u8], table: &mut [u32], held: &[u3
     }
 }
 
-// The same, with a place to hold what stands in the table: of a frame of up to 1,088 rows with a table of as many numbers, of
-// such a frame with any table, or of any frame.
+// The same, with a place in which to hold it.
+fn walk_with(
+    width: usize,
+    height: usize,
+    frame: &[u8],
+    table: &mut [u32],
+    held: &mut [u32],
+) -> Walked
+    requires { ⌜ (Walkable width height (now frame) (now table)) × (4 * sliceCount height ≤ length (now held)) ⌝ }
+    ensures { λ r. ⌜ Tabled width height (now (frame .entry)) (now (table .entry)) (now (table .exit)) (walkedSays height (now (frame .entry)) r) ⌝ }
+{
+    let n = 4 * layout::slice_count(height);
+    viewwalk::table::copy(held, table, n);
+    walk(width, height, frame, table, held)
+}
+
+// Such a place: for a frame of up to 1,088 rows with a table of as many numbers, for such a frame with any table, for any frame.
 fn walk_whole(width: usize, height: usize, frame: &[u8], table: &mut [u32]) -> Walked
     requires { ⌜ (Walkable width height (now frame) (now table)) × (sliceCount height ≤ 68) × (272 ≤ length (now table)) ⌝ }
     ensures { λ r. ⌜ Tabled width height (now (frame .entry)) (now (table .entry)) (now (table .exit)) (walkedSays height (now (frame .entry)) r) ⌝ }
@@ -53,9 +68,7 @@ fn walk_small(width: usize, height: usize, frame: &[u8], table: &mut [u32]) -> W
     ensures { λ r. ⌜ Tabled width height (now (frame .entry)) (now (table .entry)) (now (table .exit)) (walkedSays height (now (frame .entry)) r) ⌝ }
 {
     let mut held = [0u32; 272];
-    let n = 4 * layout::slice_count(height);
-    viewwalk::table::copy(&mut held, table, n);
-    walk(width, height, frame, table, &held)
+    walk_with(width, height, frame, table, &mut held)
 }
 
 fn walk_large(width: usize, height: usize, frame: &[u8], table: &mut [u32]) -> Walked
@@ -63,9 +76,7 @@ fn walk_large(width: usize, height: usize, frame: &[u8], table: &mut [u32]) -> W
     ensures { λ r. ⌜ Tabled width height (now (frame .entry)) (now (table .entry)) (now (table .exit)) (walkedSays height (now (frame .entry)) r) ⌝ }
 {
     let mut held = [0u32; 1080];
-    let n = 4 * layout::slice_count(height);
-    viewwalk::table::copy(&mut held, table, n);
-    walk(width, height, frame, table, &held)
+    walk_with(width, height, frame, table, &mut held)
 }
 
 // Clearing the place takes a part of the time that the walk takes: small frames have a small one, and one that is filled to

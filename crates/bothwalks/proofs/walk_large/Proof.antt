@@ -1,43 +1,17 @@
 -- `bothwalks::walk_large`.
 use borrow.Author.Needs.{needs}
 use native.Mathlib.Omega.{arith}
-use Prim.Native.Nat.{ℕ, _*_}
-use lib.ListN.{replicate, length-replicate}
-use Rattle.header.specs.Header.{Legal}
+use mathlib.Core.Path.{refl}
 use Rattle.header.proofs.Laws.{legal}
-use Rattle.bothwalks.proofs.Laws.{holding}
+use Rattle.bothwalks.proofs.Laws.{few}
 use Rattle.bothwalks.proofs.walk_large.Statement.{statement}
 use Rattle.bothwalks.proofs.walk_large.Tie as tie
 
-is-legal : (s : tie.Start) → Legal (s .args .width) (s .args .height) (s .args .frame .now)
-is-legal s = legal (s .args .width) (s .args .height) (s .args .frame .now) (s .pre .yes)
-
-slice-count-requires : tie.Need-slice-count-requires
-slice-count-requires c κs = is-legal (c .before .before) .high
-
-copy-requires : tie.Need-copy-requires
-copy-requires c κs =
-    let n = c .before .before in
-    let s = n .before .before .before in
-    (omega (arith, n .slice-count .ensures, is-legal s .high, length-replicate {A = ℕ} 1080 0), omega (arith, n .slice-count .ensures, s .pre .room))
-
-walk-requires : tie.Need-walk-requires
-walk-requires c κs =
-    let k = c .before .before .before in
-    let n = k .before .before .before in
-    let s = n .before .before .before in
+walk-with-requires : tie.Need-walk-with-requires
+walk-with-requires c κs =
+    let s = c .before .before .before .before in
     let a = s .args in
-    (s .pre, holding (a .height) (a .table .now) (replicate 1080 0) {n = 4 * n .slice-count .result} (omega (arith, n .slice-count .ensures)) (omega (arith, n .slice-count .ensures, is-legal s .high, length-replicate {A = ℕ} 1080 0)) (omega (arith, n .slice-count .ensures, s .pre .room)) (k .copy .ensures))
+    (s .pre, omega (arith, few (a .height) refl (legal (a .width) (a .height) (a .frame .now) (s .pre .yes) .high)))
 
 pub walk-large-spec : {M : Type 1} → statement M
-walk-large-spec =
-    tie.close
-    (tie.spec
-    slice-count-requires
-    (λ c. omega (arith, c .slice-count .ensures, is-legal (c .before .before .before) .high))
-    (λ c. search needs)
-    copy-requires
-    (λ c. search needs)
-    walk-requires
-    (λ c. search needs)
-    (λ c. search needs))
+walk-large-spec = tie.close (tie.spec (λ c. search needs) walk-with-requires (λ c. search needs) (λ c. search needs))
