@@ -12,8 +12,8 @@ use std::hint::black_box;
 const SIZE: (usize, usize) = (1920, 1080);
 const PAGE: usize = 4096;
 
-/// The streams, and the frame of them behind some other bytes. Where it lies, seen from the streams, moves the time of a copy
-/// by up to a sixth: so both sides build it in the same memory, and each lap in another place.
+/// The streams, and the frame of them behind some other bytes. Where all this lies moves the time of a copy by up to a sixth:
+/// so both sides build the frame in the same memory, and each lap in other memory, at another place of a page.
 pub struct Frame {
     layout: Layout,
     dc: Vec<Vec<u8>>,
@@ -91,6 +91,8 @@ pub fn frames(t: &mut Table) {
     f.bytes[f.before..].fill(0);
     f.built();
     assert!(f.bytes == wanted);
+    // Kept, so that the next lap's lies elsewhere.
+    t.frames.push(f);
 }
 
 fn frame_row(t: &mut Table, name: &str, ours: &dyn Fn(), rust: &dyn Fn()) {

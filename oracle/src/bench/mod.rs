@@ -35,7 +35,7 @@ pub fn run(parts: &[&str]) -> ExitCode {
         ("10-bit", |t| planes::calls::<u16>(t, "10-bit")),
         ("frames", frames::frames),
     ];
-    let mut table = Table { lap: 0, rows: Vec::new() };
+    let mut table = Table { lap: 0, frames: Vec::new(), rows: Vec::new() };
     for lap in 0..LAPS {
         table.lap = lap;
         for (name, part) in all {
@@ -68,6 +68,7 @@ fn deeper(n: usize, side: &mut dyn FnMut()) -> Duration {
 /// Each row's name and least times: ours, the Rust's and, where it differs, its portable path's.
 pub struct Table {
     lap: usize,
+    frames: Vec<frames::Frame>,
     rows: Vec<(String, Vec<f64>)>,
 }
 
