@@ -1,6 +1,6 @@
 // The steps of the forward row pass, each a loop over the whole block.
 // Pair sums fill one array and are added in the next loop: two of them added in one expression would lose the vector form.
-// The Rust's shuffles gave way to loops over whole blocks, which the compiler turns into the same vector instructions.
+// The Rust's shuffles gave way to loops over whole blocks, which the compiler turns into vector instructions.
 ghost use mathlib.Core.Path.{_≡_};
 ghost use Prim.Native.Nat.{_≤_};
 ghost use Rattle.frow_order.specs.Order.{mirrorOf, sumsOf, diffsOf, spreadOf, pairsOf, halfOf, joinOf};
