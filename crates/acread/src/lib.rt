@@ -1,4 +1,6 @@
 // Reading the AC places of a block (slice.rs, the inner loop of decode_plane).
+pub mod through;
+
 ghost use mathlib.Core.Path.{_≡_};
 ghost use Prim.Native.Nat.{ℕ, _+_, _^_, _<_};
 ghost use Rattle.bitreader.specs.Cursor.{At};

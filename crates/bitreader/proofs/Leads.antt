@@ -12,7 +12,7 @@ use lib.Pow.{pow-add, pow-mono, shl-lt}
 use lib.Count.{leadingZeros, leading-length, leading-unique}
 use Rattle.bits.specs.Bits.{bit, bitAt, Stream, num}
 use Rattle.bits.specs.Read.{zeros}
-use Rattle.bitword.proofs.Num.{num-add, num-suc, num-lt, zeros-le, zeros-num, zeros-one}
+use Rattle.bitreader.proofs.words.Num.{num-add, num-suc, num-lt, zeros-le, zeros-num, zeros-one}
 
 pub lt-or-ge : (a b : ℕ) → (a < b) ⊎ (b ≤ a)
 lt-or-ge a b = go (ltb a b) refl

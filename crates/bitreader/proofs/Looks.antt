@@ -10,12 +10,12 @@ use lib.Pow.{pow-mono, pow-pos}
 use lib.Count.{leadingZeros}
 use Rattle.bits.specs.Bits.{bit, bitAt, Stream, num}
 use Rattle.bits.specs.Read.{zeros, readTail, readSymbol, readDc}
-use Rattle.bitword.specs.Word.{Holds, numberOf}
+use Rattle.bitreader.specs.words.Word.{Holds, numberOf}
 use Rattle.bitreader.specs.Cursor.{At, symbolBy, symbolOf, dcBy, dcOf, Next, Looked, Long}
 use Rattle.bitreader.specs.declared.AcCursor.{AcCursor}
 use Rattle.bitreader.specs.declared.Got.{Got}
-use Rattle.bitword.proofs.Num.{num-lt, zeros-more, zeros-one, zeros-all}
-use Rattle.bitword.proofs.Words.{holds-top, holds-up}
+use Rattle.bitreader.proofs.words.Num.{num-lt, zeros-more, zeros-one, zeros-all}
+use Rattle.bitreader.proofs.words.Words.{holds-top, holds-up}
 use Rattle.bitreader.proofs.Leads.{lt-or-ge, lead-few, lead-many, one-first}
 use Rattle.bitreader.proofs.Spans.{symbol-short, dc-short, symbol-bad, symbol-long, dc-bad, dc-long, long-size}
 

@@ -11,9 +11,9 @@ use lib.Pow.{pow-mono, pow-pos}
 use lib.Count.{leadingZeros}
 use Rattle.bits.specs.Bits.{bit, Stream, num}
 use Rattle.bits.specs.Read.{unlessOne, zeros, Tail, badTail, number, pickTail, tailAt, readTail, Symbol, badSymbol, run, value, asRun, asValue, byHead, readSymbol, DcCode, badDc, zeroStep, step, asStep, byFirst, readDc}
-use Rattle.bitword.specs.Word.{numberOf}
+use Rattle.bitreader.specs.words.Word.{numberOf}
 use Rattle.bitreader.specs.Cursor.{symbolBy, dcBy}
-use Rattle.bitword.proofs.Num.{num-suc, num-lt, zeros-one}
+use Rattle.bitreader.proofs.words.Num.{num-suc, num-lt, zeros-one}
 use Rattle.bitreader.proofs.Leads.{lt-or-ge, lead-is, one-first}
 
 span : Stream → ℕ → ℕ → Tail

@@ -6,7 +6,7 @@ use Prim.Native.Nat.{ℕ, zero, suc, _+_, _-_, _*_, _^_, _≤_, _<_}
 use lib.Count.{leadingZeros}
 use Rattle.bits.specs.Bits.{bit, bitAt}
 use Rattle.bits.specs.Read.{readTail, Symbol, badSymbol, run, value, readSymbol, DcCode, badDc, zeroStep, step, readDc}
-use Rattle.bitword.specs.Word.{Holds, numberOf}
+use Rattle.bitreader.specs.words.Word.{Holds, numberOf}
 use Rattle.bitreader.specs.declared.AcCursor.{AcCursor}
 use Rattle.bitreader.specs.declared.Got.{Got}
 

@@ -1,11 +1,14 @@
 // Reading bits and symbols (bits.rs, BitReader and AcCursor). Stream and position are passed separately.
 // A bit position counts from the stream's start, the highest bit of a byte first; past the end every bit is one.
+pub mod scan;
+pub mod words;
+
 ghost use mathlib.Core.Path.{_≡_};
 ghost use Prim.Native.Nat.{ℕ, _+_, _-_, _*_, _/_, _%_, _^_, _≤_, _<_};
 ghost use Rattle.bits.specs.Bits.{bitAt, bytesFor};
 ghost use Rattle.bits.specs.Read.{readTail, readSymbol, readDc};
 ghost use Rattle.bits.specs.Signed.{signedOf};
-ghost use Rattle.bitword.specs.Word.{numberOf};
+ghost use Rattle.bitreader.specs.words.Word.{numberOf};
 ghost use Rattle.bitreader.specs.Cursor.{At, symbolOf, dcOf, NextSymbol, NextDc, Looked, Long};
 
 // A place in a stream, with the next bits at the top of a word.
@@ -30,7 +33,7 @@ pub fn cursor(s: &[u8], p: usize) -> AcCursor
     let k = (p % 8) as u32;
     AcCursor {
         pos: p,
-        bits: bitword::peek(s, p),
+        bits: crate::words::peek(s, p),
         count: 64 - k,
     }
 }
@@ -64,7 +67,7 @@ fn filled(s: &[u8], c: AcCursor) -> AcCursor
         let k = (c.pos % 8) as u32;
         AcCursor {
             pos: c.pos,
-            bits: bitword::peek(s, c.pos),
+            bits: crate::words::peek(s, c.pos),
             count: 64 - k,
         }
     } else {
@@ -124,11 +127,11 @@ fn long_number(s: &[u8], p: usize) -> u64
     requires { ⌜ p < 2 ^ 61 ⌝ }
     ensures { λ r. ⌜ r ≡ numberOf (readTail (bitAt (now (s .entry))) p) ⌝ }
 {
-    let z = u64::leading_zeros(bitword::far(s, p));
+    let z = u64::leading_zeros(crate::words::far(s, p));
     if z > 54 {
         return 0;
     }
-    bitword::far(s, p + z as usize) >> (62 - z)
+    crate::words::far(s, p + z as usize) >> (62 - z)
 }
 
 // What was got by the number v behind the head run at c: a code's length is that of its number's digits.

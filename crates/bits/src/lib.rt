@@ -1,4 +1,4 @@
-// Bits and symbols of the slice streams (bits.rs): definitions and laws. The writer is the crate bitacc, the reader bitreader.
+// Bits and symbols of the slice streams (bits.rs): definitions and laws. The writer is the crate bitwriter, the reader bitreader.
 ghost use mathlib.Core.Path.{_≡_};
 ghost use Prim.Native.Nat.{_^_, _<_};
 ghost use Rattle.bits.specs.Bits.{bitLength};

@@ -16,13 +16,13 @@ use Rattle.bitreader.specs.declared.Got.{Got}
 use Rattle.quant.specs.Quantise.{coefficient, scanOf}
 use Rattle.calls.specs.Streams.{dcOf, withDc}
 use Rattle.calls.specs.ReadPlane.{places, readPlaces, BlockRead, Blocks, badBlocks, blocks, blockThen, readBlocks, DcStep, DcSteps, badSteps, dcSteps, stepThen, readSteps, settle, predicted, planeRead, bothStreams, readPlane}
-use Rattle.dcread.specs.Steps.{stepOf, goodSteps}
-use Rattle.dcread.proofs.Steps.{steps-next, some}
+use Rattle.blockread.specs.dc.Steps.{stepOf, goodSteps}
+use Rattle.blockread.proofs.dc.Steps.{steps-next, some}
 use Rattle.blockread.specs.On.{onStreams, readOn, blockFirst, NextBlock}
-use Rattle.acplaces.specs.Places.{Placed}
+use Rattle.blockread.specs.ac.Places.{Placed}
 use Rattle.blockread.specs.declared.Stand.{Stand}
-use Rattle.acplaces.specs.declared.AcGot.{AcGot}
-use Rattle.acplaces.proofs.Scan.{scan-dc, scan-with}
+use Rattle.blockread.specs.declared.ac.AcGot.{AcGot}
+use Rattle.blockread.proofs.ac.Scan.{scan-dc, scan-with}
 
 -- ---- one block more
 

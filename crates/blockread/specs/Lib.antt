@@ -1,1 +1,3 @@
 pub mod On
+pub mod ac
+pub mod dc

@@ -1,4 +1,7 @@
 // A plane's blocks, read one by one from both streams (slice.rs, decode_plane without the transform).
+pub mod ac;
+pub mod dc;
+
 ghost use mathlib.Core.Path.{_≡_};
 ghost use mathlib.Core.Bool.{true};
 ghost use lib.IntN.{pos};
@@ -61,10 +64,10 @@ pub fn next_block(dc: &[u8], ac: &[u8], s: Stand, shift: u32, z: &[u8; 64]) -> B
 {
     let a = s.ac;
     let d = s.dc;
-    let g = acplaces::read_block(ac, a, s.pending, z);
+    let g = crate::ac::read_block(ac, a, s.pending, z);
     let h = bitreader::next_dc(dc, d);
     let mut nat = g.nat;
-    let last = dcread::settled(h.run, h.num, shift, nat[0], s.last);
+    let last = crate::dc::settled(h.run, h.num, shift, nat[0], s.last);
     nat[0] = last;
     let e = h.c;
     let b = g.c;

@@ -1,7 +1,9 @@
 // Building a frame (layout.rs, `write`): the header, then the streams one by one, each named by its kind and slice number
-// (crate frameput).
+// (module builder::streams).
 //
 // The builder is a state by value over a lent buffer. It refuses a buffer without room; a refusal changes no byte.
+pub mod streams;
+
 ghost use mathlib.Core.Path.{_≡_};
 ghost use Prim.Native.Nat.{_+_, _≤_};
 ghost use lib.Dec.{leb};
@@ -89,10 +91,10 @@ fn put_header(out: &mut [u8], at: usize, interlaced: bool, quality: u8, shift: u
 {
     let f = format_byte(interlaced);
     if shift == 0 {
-        lay::put3(out, at, f, quality, count);
+        copy::put3(out, at, f, quality, count);
     } else {
-        lay::put2(out, at, 3, shift as u8);
-        lay::put3(out, at + 2, f, quality, count);
+        copy::put2(out, at, 3, shift as u8);
+        copy::put3(out, at + 2, f, quality, count);
     }
 }
 

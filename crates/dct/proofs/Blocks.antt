@@ -14,7 +14,7 @@ use Rattle.paint.specs.Samples.{sampleOf}
 use Rattle.paint.proofs.Pixels.{store-ext}
 use Rattle.tables.specs.Divisor.{divisor}
 use Rattle.quant.specs.Quantise.{coefficient, dequantised, dequantiseBy, dequantShift, dequantiseOf}
-use Rattle.icols.specs.Columns.{levelOf}
+use Rattle.idct.specs.columns.Columns.{levelOf}
 use Rattle.idct.specs.Inverse.{inverseOf, samplesOf}
 use Rattle.idct.proofs.Bounds.{sample-at, sample-lt, sampleTop, level-law}
 use Rattle.dct.specs.Decode.{blockSample, numberSample}

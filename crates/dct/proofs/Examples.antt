@@ -8,11 +8,11 @@ use lib.ListN.{replicate}
 use Rattle.scalar.specs.Scalar.{sat16, wrap16, wrap32, addOf, addsOf, subsOf, mulhiOf, mulloOf, sraOf, orOf, packusOf}
 use Rattle.scalar.specs.Tab.{tabFrom, tab}
 use Rattle.irow.specs.RowPass.{tab04, tab17, tab26, tab35, rowLane, rowsOf}
-use Rattle.icol.specs.Steps.{_▸_, oddOf, evenOf, sumOf, diffOf, joinOf, columnOf}
+use Rattle.idct.specs.column.Steps.{_▸_, oddOf, evenOf, sumOf, diffOf, joinOf, columnOf}
 use Rattle.paint.specs.Samples.{flatSample}
 use Rattle.tables.specs.Divisor.{baseMatrix, qualityFactors, divisor}
 use Rattle.quant.specs.Quantise.{dequantised, dequantiseBy}
-use Rattle.icols.specs.Columns.{columnAt, columnsOf}
+use Rattle.idct.specs.columns.Columns.{columnAt, columnsOf}
 use Rattle.idct.specs.Inverse.{inverseOf}
 use Rattle.dct.specs.Decode.{blockSample}
 

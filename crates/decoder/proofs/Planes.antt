@@ -10,15 +10,15 @@ use Rattle.calls.specs.ReadPlane.{PlaneRead, badPlane, planeRead, readPlane}
 use Rattle.calls.specs.Grid.{blocksOf}
 use Rattle.slice.specs.Plane.{reconstruct}
 use Rattle.slice.specs.Calls.{PlanesRead, planesRead, byPlane, readPlanes, Decoded, rowsMade, decode, decodePlane}
-use Rattle.planebits.specs.declared.Ends.{Ends}
+use Rattle.entropy.specs.declared.plane.Ends.{Ends}
 use Rattle.encplane.specs.Coding.{settings, plane}
-use Rattle.askorder.specs.Order.{perStream}
-use Rattle.asks.specs.ByNumbers.{planeCall}
-use Rattle.asks.proofs.Passed.{ReadingLegal, reading-legal}
+use Rattle.questions.specs.order.Order.{perStream}
+use Rattle.questions.specs.of_call.ByNumbers.{planeCall}
+use Rattle.questions.proofs.of_call.Passed.{ReadingLegal, reading-legal}
 use Rattle.judge.specs.Good.{buffers, positions}
-use Rattle.verdict.proofs.Laws.{Passed, passed, refused-is, accepted-is}
-use Rattle.verdict.proofs.Planes.{one-good}
-use Rattle.storeplane.specs.Storing.{blocksGot, PlaneGood, PlaneStored}
+use Rattle.judge.proofs.verdict.Laws.{Passed, passed, refused-is, accepted-is}
+use Rattle.judge.proofs.verdict.Planes.{one-good}
+use Rattle.decplane.specs.store.Storing.{blocksGot, PlaneGood, PlaneStored}
 
 module _ (depth : Depth) (preset shift place stride : ℕ) (rows dc : List ℕ) (d : ℕ) (ac : List ℕ) (a : ℕ) where
   abbrev numbered : ℕ → Type 0

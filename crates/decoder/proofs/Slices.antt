@@ -5,14 +5,14 @@ use Prim.Native.Nat.{ℕ, _≤_, _<_}
 use lib.ListN.{length}
 use Rattle.calls.specs.Arguments.{Settings, Plane, planesOf, PerStream, Buffers}
 use Rattle.slice.specs.Calls.{Decoded, decode}
-use Rattle.planebits.specs.declared.Ends.{Ends}
+use Rattle.entropy.specs.declared.plane.Ends.{Ends}
 use Rattle.encplane.specs.Coding.{settings}
-use Rattle.askorder.specs.Order.{perStream}
-use Rattle.asks.proofs.Passed.{LegalPlane, Every, ReadingLegal, reading-legal}
+use Rattle.questions.specs.order.Order.{perStream}
+use Rattle.questions.proofs.of_call.Passed.{LegalPlane, Every, ReadingLegal, reading-legal}
 use Rattle.judge.specs.Good.{buffers, positions}
-use Rattle.verdict.proofs.Laws.{Passed, passed, refused-is, accepted-is}
-use Rattle.verdict.proofs.Slices.{Given, call}
-use Rattle.decslice.specs.SliceStoring.{AllFit, SliceGood, SliceStored}
+use Rattle.judge.proofs.verdict.Laws.{Passed, passed, refused-is, accepted-is}
+use Rattle.judge.proofs.verdict.Slices.{Given, call}
+use Rattle.decoder.specs.by_slice.SliceStoring.{AllFit, SliceGood, SliceStored}
 
 all-fit : (ps : List Plane) → Every LegalPlane ps → AllFit ps
 all-fit [] e = tt

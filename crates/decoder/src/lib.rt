@@ -1,14 +1,16 @@
 // The reading calls: the verdict (questions in their order, then the judge), then the storing pass. Any arguments whatever are allowed:
 // a call that meets a "no", or a bad code, answers its number and the positions that it was given, and has stored nothing.
+pub mod by_slice;
+
 ghost use mathlib.Core.Path.{_≡_};
 ghost use mathlib.Core.List.{[], _∷_};
 ghost use Rattle.calls.specs.Arguments.{eight, ten};
 ghost use Rattle.slice.specs.Calls.{decodePlane, decodeSlice};
 ghost use Rattle.encplane.specs.Coding.{settings, plane};
-ghost use Rattle.encslice.specs.SliceCoding.{rows};
+ghost use Rattle.encoder.specs.by_slice.SliceCoding.{rows};
 ghost use Rattle.judge.specs.Good.{buffers, positions};
-ghost use Rattle.answers.specs.Read.{answered};
-pub use answers::ReadAnswer;
+ghost use Rattle.questions.specs.answers.Read.{answered};
+pub use questions::answers::ReadAnswer;
 
 // Reads a plane of 8-bit samples into its rows, from the positions d and a on.
 pub fn decode_plane8(
@@ -24,7 +26,7 @@ pub fn decode_plane8(
 ) -> ReadAnswer
     ensures { λ r. ⌜ answered r (now (rows .exit) ∷ []) ≡ decodePlane (settings eight preset shift) (plane place stride (now (rows .entry))) (buffers (now (dc .entry)) (now (ac .entry))) (positions d a) ⌝ }
 {
-    let n = verdict::plane(preset, shift, place, stride, rows.len(), dc, d, ac, a);
+    let n = judge::verdict::plane(preset, shift, place, stride, rows.len(), dc, d, ac, a);
     if 0 < n {
         return ReadAnswer::Refused(n, d, a);
     }
@@ -46,7 +48,7 @@ pub fn decode_plane10(
 ) -> ReadAnswer
     ensures { λ r. ⌜ answered r (now (rows .exit) ∷ []) ≡ decodePlane (settings ten preset shift) (plane place stride (now (rows .entry))) (buffers (now (dc .entry)) (now (ac .entry))) (positions d a) ⌝ }
 {
-    let n = verdict::plane(preset, shift, place, stride, rows.len(), dc, d, ac, a);
+    let n = judge::verdict::plane(preset, shift, place, stride, rows.len(), dc, d, ac, a);
     if 0 < n {
         return ReadAnswer::Refused(n, d, a);
     }
@@ -74,7 +76,7 @@ pub fn decode_slice8(
 ) -> ReadAnswer
     ensures { λ r. ⌜ answered r (now (p0 .exit) ∷ now (p1 .exit) ∷ now (p2 .exit) ∷ now (p3 .exit) ∷ []) ≡ decodeSlice (settings eight preset shift) count (rows stride0 (now (p0 .entry))) (rows stride1 (now (p1 .entry))) (rows stride2 (now (p2 .entry))) (rows stride3 (now (p3 .entry))) (buffers (now (dc .entry)) (now (ac .entry))) (positions d a) ⌝ }
 {
-    let number = verdict::slice(
+    let number = judge::verdict::slice(
         count,
         preset,
         shift,
@@ -94,7 +96,7 @@ pub fn decode_slice8(
     if 0 < number {
         return ReadAnswer::Refused(number, d, a);
     }
-    let e = decslice::slice8(
+    let e = crate::by_slice::slice8(
         p0,
         stride0,
         p1,
@@ -134,7 +136,7 @@ pub fn decode_slice10(
 ) -> ReadAnswer
     ensures { λ r. ⌜ answered r (now (p0 .exit) ∷ now (p1 .exit) ∷ now (p2 .exit) ∷ now (p3 .exit) ∷ []) ≡ decodeSlice (settings ten preset shift) count (rows stride0 (now (p0 .entry))) (rows stride1 (now (p1 .entry))) (rows stride2 (now (p2 .entry))) (rows stride3 (now (p3 .entry))) (buffers (now (dc .entry)) (now (ac .entry))) (positions d a) ⌝ }
 {
-    let n = verdict::slice(
+    let n = judge::verdict::slice(
         count,
         preset,
         shift,
@@ -154,7 +156,7 @@ pub fn decode_slice10(
     if 0 < n {
         return ReadAnswer::Refused(n, d, a);
     }
-    let e = decslice::slice10(
+    let e = crate::by_slice::slice10(
         p0,
         stride0,
         p1,

@@ -1,8 +1,10 @@
 // The storing pass over a plane (decode_plane of slice.rs) whose streams were judged good, at each depth.
+pub mod store;
+
 ghost use Rattle.calls.specs.Arguments.{eight, ten};
 ghost use Rattle.encplane.specs.Coding.{settings, plane};
-ghost use Rattle.storeplane.specs.Storing.{PlaneGood, PlaneStored};
-use planebits::Ends;
+ghost use Rattle.decplane.specs.store.Storing.{PlaneGood, PlaneStored};
+use entropy::plane::Ends;
 
 // Stores an 8-bit plane, read from the DC stream from d on and the AC stream from a on.
 pub fn plane8(
@@ -20,7 +22,7 @@ pub fn plane8(
     ensures { λ r. ⌜ PlaneStored (settings eight preset shift) (plane place stride (now (rows .entry))) (now (dc .entry)) d (now (ac .entry)) a r (now (rows .exit)) ⌝ }
 {
     let mut none = [0u16; 1];
-    storeplane::plane(
+    crate::store::plane(
         false,
         rows,
         &mut none,
@@ -51,7 +53,7 @@ pub fn plane10(
     ensures { λ r. ⌜ PlaneStored (settings ten preset shift) (plane place stride (now (rows .entry))) (now (dc .entry)) d (now (ac .entry)) a r (now (rows .exit)) ⌝ }
 {
     let mut none = [0u8; 1];
-    storeplane::plane(
+    crate::store::plane(
         true,
         &mut none,
         rows,

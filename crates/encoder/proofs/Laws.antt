@@ -11,12 +11,12 @@ use Rattle.calls.specs.Streams.{dcStream, acStream}
 use Rattle.slice.specs.Plane.{coefficients}
 use Rattle.calls.specs.Questions.{codingQuestions}
 use Rattle.slice.specs.Calls.{lengthsOf, ownStreams, encode, encodePlane}
-use Rattle.asks.specs.ByNumbers.{planeCall, sliceCall}
-use Rattle.asks.proofs.Passed.{LegalPlane, Every, coding-legal}
-use Rattle.planebits.specs.declared.Ends.{Ends}
+use Rattle.questions.specs.of_call.ByNumbers.{planeCall, sliceCall}
+use Rattle.questions.proofs.of_call.Passed.{LegalPlane, Every, coding-legal}
+use Rattle.entropy.specs.declared.plane.Ends.{Ends}
 use Rattle.encplane.specs.Coding.{settings, plane, PlaneOk, PlaneDone}
-use Rattle.encslice.specs.SliceCoding.{rows, AllRowsLeft, SliceOk, SliceDone}
-use Rattle.answers.specs.Streams.{buffers, positions}
+use Rattle.encoder.specs.by_slice.SliceCoding.{rows, AllRowsLeft, SliceOk, SliceDone}
+use Rattle.questions.specs.answers.Streams.{buffers, positions}
 
 -- ---- any call
 module _ (c : Call) (dcs : List ℕ) (d : ℕ) (acs : List ℕ) (a : ℕ) where

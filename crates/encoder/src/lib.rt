@@ -1,13 +1,15 @@
 // The coding calls of planes and slices: the questions in their order, then the coder. Any arguments whatever are allowed:
 // a call that meets a "no" answers its number and the positions that it was given, and has written nothing.
+pub mod by_slice;
+
 ghost use mathlib.Core.Path.{_≡_};
 ghost use Rattle.calls.specs.Arguments.{eight, ten};
 ghost use Rattle.slice.specs.Calls.{encodePlane, encodeSlice};
 ghost use Rattle.encplane.specs.Coding.{settings, plane};
-ghost use Rattle.encslice.specs.SliceCoding.{rows};
-ghost use Rattle.answers.specs.Streams.{buffers, positions};
-ghost use Rattle.answers.specs.Code.{answered};
-pub use answers::CodeAnswer;
+ghost use Rattle.encoder.specs.by_slice.SliceCoding.{rows};
+ghost use Rattle.questions.specs.answers.Streams.{buffers, positions};
+ghost use Rattle.questions.specs.answers.Code.{answered};
+pub use questions::answers::CodeAnswer;
 
 // Codes an 8-bit plane behind the positions d and a.
 pub fn encode_plane8(
@@ -23,7 +25,7 @@ pub fn encode_plane8(
 ) -> CodeAnswer
     ensures { λ r. ⌜ answered r (now (dcs .exit)) (now (acs .exit)) ≡ encodePlane (settings eight preset shift) (plane place stride (now (rows .entry))) (buffers (now (dcs .entry)) (now (acs .entry))) (positions d a) ⌝ }
 {
-    let n = asks::coding_plane(
+    let n = questions::of_call::coding_plane(
         preset,
         shift,
         place,
@@ -55,7 +57,7 @@ pub fn encode_plane10(
 ) -> CodeAnswer
     ensures { λ r. ⌜ answered r (now (dcs .exit)) (now (acs .exit)) ≡ encodePlane (settings ten preset shift) (plane place stride (now (rows .entry))) (buffers (now (dcs .entry)) (now (acs .entry))) (positions d a) ⌝ }
 {
-    let number = asks::coding_plane(
+    let number = questions::of_call::coding_plane(
         preset,
         shift,
         place,
@@ -93,7 +95,7 @@ pub fn encode_slice8(
 ) -> CodeAnswer
     ensures { λ r. ⌜ answered r (now (dcs .exit)) (now (acs .exit)) ≡ encodeSlice (settings eight preset shift) count (rows stride0 (now (p0 .entry))) (rows stride1 (now (p1 .entry))) (rows stride2 (now (p2 .entry))) (rows stride3 (now (p3 .entry))) (buffers (now (dcs .entry)) (now (acs .entry))) (positions d a) ⌝ }
 {
-    let first = asks::coding_slice(
+    let first = questions::of_call::coding_slice(
         count,
         preset,
         shift,
@@ -113,7 +115,7 @@ pub fn encode_slice8(
     if 0 < first {
         return CodeAnswer::Refused(first, d, a);
     }
-    let ends = encslice::slice8(
+    let ends = crate::by_slice::slice8(
         p0,
         stride0,
         p1,
@@ -153,7 +155,7 @@ pub fn encode_slice10(
 ) -> CodeAnswer
     ensures { λ r. ⌜ answered r (now (dcs .exit)) (now (acs .exit)) ≡ encodeSlice (settings ten preset shift) count (rows stride0 (now (p0 .entry))) (rows stride1 (now (p1 .entry))) (rows stride2 (now (p2 .entry))) (rows stride3 (now (p3 .entry))) (buffers (now (dcs .entry)) (now (acs .entry))) (positions d a) ⌝ }
 {
-    let number = asks::coding_slice(
+    let number = questions::of_call::coding_slice(
         count,
         preset,
         shift,
@@ -173,7 +175,7 @@ pub fn encode_slice10(
     if 0 < number {
         return CodeAnswer::Refused(number, d, a);
     }
-    let e = encslice::slice10(
+    let e = crate::by_slice::slice10(
         p0,
         stride0,
         p1,

@@ -15,12 +15,12 @@ use Rattle.calls.specs.Grid.{columnsOf, blocksOf}
 use Rattle.slice.specs.Plane.{blockCoefficients, coefficientsAt, coefficients}
 use Rattle.calls.proofs.Fits.{Quantised}
 use Rattle.slice.proofs.Law.{quantised}
-use Rattle.planebits.specs.declared.PlaneState.{PlaneState}
-use Rattle.planebits.specs.declared.Ends.{Ends}
-use Rattle.planebits.specs.Coded.{startOf, PlaneCoded, BlockRoom, EndRoom, Ended}
-use Rattle.planebits.proofs.Blocks.{coded-start}
-use Rattle.planebits.proofs.Rooms.{Begun, block-room, begun-next, end-room}
-use Rattle.planebits.proofs.Whole.{dc-whole, dc-ends, ac-whole, ac-ends}
+use Rattle.entropy.specs.declared.plane.PlaneState.{PlaneState}
+use Rattle.entropy.specs.declared.plane.Ends.{Ends}
+use Rattle.entropy.specs.plane.Coded.{startOf, PlaneCoded, BlockRoom, EndRoom, Ended}
+use Rattle.entropy.proofs.plane.Blocks.{coded-start}
+use Rattle.entropy.proofs.plane.Rooms.{Begun, block-room, begun-next, end-room}
+use Rattle.entropy.proofs.plane.Whole.{dc-whole, dc-ends, ac-whole, ac-ends}
 use Rattle.encplane.specs.Coding.{settings, plane, PlaneOk, PlaneDone}
 
 -- a table, one entry more

@@ -8,7 +8,7 @@ use Rattle.calls.specs.Arguments.{Depth, Settings, Plane}
 use Rattle.calls.specs.Streams.{dcStream, acStream}
 use Rattle.calls.specs.Grid.{blocksOf}
 use Rattle.slice.specs.Plane.{coefficients}
-use Rattle.planebits.specs.declared.Ends.{Ends}
+use Rattle.entropy.specs.declared.plane.Ends.{Ends}
 
 abbrev pub settings : Depth → ℕ → ℕ → Settings
 settings depth preset shift = record { depth = depth; preset = preset; shift = shift }

@@ -2,7 +2,7 @@
 // each block's coefficients go straight into both streams.
 ghost use Rattle.calls.specs.Arguments.{eight, ten};
 ghost use Rattle.encplane.specs.Coding.{settings, plane, PlaneOk, PlaneDone};
-use planebits::Ends;
+use entropy::plane::Ends;
 
 // Codes an 8-bit plane, the DC stream from d on, the AC stream from a on.
 pub fn plane8(
@@ -20,17 +20,17 @@ pub fn plane8(
     ensures { λ r. ⌜ PlaneDone (settings eight preset shift) (plane place stride (now (rows .entry))) (now (dcs .entry)) d (now (acs .entry)) a r (now (dcs .exit)) (now (acs .exit)) ⌝ }
 {
     let v = planes::level8(place);
-    let k = reciprocals::encode_numbers(preset);
+    let k = tables::reciprocals::encode_numbers(preset);
     let cols = stride / 8;
-    let mut s = planebits::begin(d, a);
+    let mut s = entropy::plane::begin(d, a);
     for j in 0..2 {
         for i in 0..cols {
             let c = planes::corner(stride, j, i);
             let z = dct::forward::fdct_quant_zig8(&rows[c..], stride, v, preset, &k);
-            s = planebits::code_block(s, z, shift, dcs, acs);
+            s = entropy::plane::code_block(s, z, shift, dcs, acs);
         }
     }
-    planebits::end(s, dcs, acs)
+    entropy::plane::end(s, dcs, acs)
 }
 
 // Codes a 10-bit plane, the DC stream from d on, the AC stream from a on.
@@ -49,15 +49,15 @@ pub fn plane10(
     ensures { λ r. ⌜ PlaneDone (settings ten preset shift) (plane place stride (now (rows .entry))) (now (dcs .entry)) d (now (acs .entry)) a r (now (dcs .exit)) (now (acs .exit)) ⌝ }
 {
     let v = planes::level10(place);
-    let k = reciprocals::encode_numbers(preset);
+    let k = tables::reciprocals::encode_numbers(preset);
     let cols = stride / 8;
-    let mut s = planebits::begin(d, a);
+    let mut s = entropy::plane::begin(d, a);
     for j in 0..2 {
         for i in 0..cols {
             let c = planes::corner(stride, j, i);
             let z = dct::forward::fdct_quant_zig16(&rows[c..], stride, v, preset, &k);
-            s = planebits::code_block(s, z, shift, dcs, acs);
+            s = entropy::plane::code_block(s, z, shift, dcs, acs);
         }
     }
-    planebits::end(s, dcs, acs)
+    entropy::plane::end(s, dcs, acs)
 }

@@ -6,7 +6,7 @@ use lib.Dec.{eqb}
 use lib.IntN.{ℤ, pos, negsuc}
 use Rattle.scalar.specs.Scalar.{sat16, wrap32, addsOf, subsOf, mulhiOf, sllOf, orOf, sraOf}
 use Rattle.scalar.specs.Tab.{tab, tabFrom}
-use Rattle.fcol.specs.Steps.{_▸_, butterflyOf, evenOf, oddOf, columnOf}
+use Rattle.fdct.specs.column.Steps.{_▸_, butterflyOf, evenOf, oddOf, columnOf}
 use Rattle.frow.specs.Rows.{ftab1, ftab2, ftab3, ftab4, tableAt, sideAt, dotOf, coefficientAt, rowsOf}
 use Rattle.fdct.specs.Forward.{levelOf, columnsOf, transformOf, forwardOf}
 

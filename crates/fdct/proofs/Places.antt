@@ -6,7 +6,7 @@ use mir.Syntax.{w64}
 use mir.Val.{Fits}
 use native.Mathlib.Nat.{mul-le-mul-right}
 use Rattle.scalar.proofs.InRows.{row-of, col-of}
-use Rattle.fcol.specs.declared.Lanes.{Lanes}
+use Rattle.fdct.specs.declared.column.Lanes.{Lanes}
 use Rattle.fdct.specs.Forward.{laneAt}
 
 -- rows of samples: row r begins at r * stride

@@ -7,11 +7,11 @@ use Prim.Native.Nat.{ℕ, zero, suc, _+_, _*_, _/_, _%_}
 use lib.IntN.{ℤ, pos, negℤ}
 use lib.ListN.{getD}
 use Rattle.scalar.specs.Tab.{tab}
-use Rattle.fcol.specs.Steps.{columnOf}
-use Rattle.fcol.specs.declared.Lanes.{Lanes}
+use Rattle.fdct.specs.column.Steps.{columnOf}
+use Rattle.fdct.specs.declared.column.Lanes.{Lanes}
 use Rattle.frow.specs.Rows.{at, rowsOf}
-pub use Rattle.flevel.specs.Level.{levelAt}
-unfoldable pub use Rattle.flevel.specs.Level.{levelOf}
+pub use Rattle.fdct.specs.levels.Level.{levelAt}
+unfoldable pub use Rattle.fdct.specs.levels.Level.{levelOf}
 
 -- "A u8 sample is its own lane; a u16 sample's lane is the sample shifted right by 6": the block at the corner of the rows
 abbrev pub lane8At : List ℕ → ℕ → ℕ → ℤ

@@ -1,1 +1,3 @@
 pub mod Forward
+pub mod column
+pub mod levels

@@ -1,10 +1,12 @@
 // The forward transform of one 8 by 8 block (dct.rs, fdct_quant_zig, up to the quantiser): lanes row by row to coefficients in natural order.
+pub mod column;
+pub mod levels;
 pub mod load;
 
 ghost use mathlib.Core.Path.{_≡_};
 ghost use Prim.Native.Nat.{_<_};
 ghost use Rattle.fdct.specs.Forward.{columnsOf, transformOf};
-use flevel::level;
+use crate::levels::level;
 
 // The column pass, one column a turn.
 pub fn columns(b: [i16; 64], shift: u32) -> [i16; 64]
@@ -13,7 +15,7 @@ pub fn columns(b: [i16; 64], shift: u32) -> [i16; 64]
 {
     let mut c = [0i16; 64];
     for j in 0..8 {
-        let v = fcol::column(
+        let v = crate::column::column(
             b[j],
             b[j + 8],
             b[j + 16],

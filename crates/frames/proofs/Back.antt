@@ -8,11 +8,11 @@ use native.Mathlib.Omega.{arith}
 use lib.ListN.{length, getD, take, drop, length-append}
 use lib.Seq.{getD-append-add, drop-append-add, take-append-seam}
 use Rattle.ask.specs.Ask.{Answer, refused, accepted, andThen}
-use Rattle.streams.specs.Streams.{byteAt, lengthAt, oneStream, streams}
+use Rattle.parser.specs.streams.Streams.{byteAt, lengthAt, oneStream, streams}
 use Rattle.parser.specs.Frame.{View, partAt, nthStream}
-use Rattle.streams.proofs.Laws.{one-whole, turn}
+use Rattle.parser.proofs.streams.Laws.{one-whole, turn}
 use Rattle.parser.proofs.Laws.{nth-yes}
-use Rattle.frameput.specs.Put.{lengthWord, streamBytes, allStreams}
+use Rattle.builder.specs.streams.Put.{lengthWord, streamBytes, allStreams}
 use Rattle.frames.specs.Whole.{Within}
 use Rattle.frames.proofs.Put.{stream-length}
 

@@ -10,7 +10,7 @@ use Rattle.ask.specs.Ask.{Answer, refused, accepted, andThen}
 use Rattle.bits.specs.Lay.{lay}
 use Rattle.parser.specs.Frame.{viewOf}
 use Rattle.builder.specs.Build.{Build, Built, headerLength, headerBytes, countByte, started}
-use Rattle.frameput.specs.Put.{allStreams, writeOf}
+use Rattle.builder.specs.streams.Put.{allStreams, writeOf}
 use Rattle.frames.specs.Whole.{buildOf, Complete, ofKind, streamAt, bytesOf, frameIn}
 use Rattle.frames.proofs.Put.{header-length, afterAll, all-at, builds, builds-dc}
 use Rattle.frames.proofs.Views.{none, a-slice, view-back}

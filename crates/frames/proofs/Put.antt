@@ -14,9 +14,9 @@ use Rattle.bits.specs.Lay.{lay}
 use Rattle.bits.proofs.LayLaw.{lay-none, lay-lay, lay-length}
 use Rattle.layout.specs.Geometry.{sizeOk, sliceCount, maxDcLen, maxAcLen}
 use Rattle.builder.specs.Build.{Build, Built, headerLength, headerBytes, countByte, headerQuestions, headerOf, started}
-use Rattle.frameput.specs.Put.{lengthWord, streamBytes, streamQuestions, streamOf, afterStream, inTurn, limitOf, same, lastOf, allStreams, writeOf}
+use Rattle.builder.specs.streams.Put.{lengthWord, streamBytes, streamQuestions, streamOf, afterStream, inTurn, limitOf, same, lastOf, allStreams, writeOf}
 use Rattle.builder.proofs.Laws.{all-yes, header-yes}
-use Rattle.frameput.proofs.Laws.{stream-yes, stream-done}
+use Rattle.builder.proofs.streams.Laws.{stream-yes, stream-done}
 use Rattle.frames.specs.Whole.{putAll, buildOf, Within}
 
 pub stream-length : (s : List ℕ) → length (streamBytes s) ≡ 4 + length s

@@ -9,14 +9,14 @@ use lib.ListN.{length, length-append}
 use borrow.Author.Tests.{eq-eqb}
 use Rattle.ask.specs.Ask.{Answer, refused, accepted, firstNo}
 use Rattle.layout.specs.Geometry.{sizeOk, sliceCount, maxDcLen, maxAcLen, interlaceCapable}
-use Rattle.streams.specs.Streams.{byteAt, streams}
-use Rattle.header.specs.Header.{formatAt, shiftIn, countOk, headerLength, headerQuestions, isInterlaced, FrameRead, frameRead}
+use Rattle.parser.specs.streams.Streams.{byteAt, streams}
+use Rattle.parser.specs.head.Header.{formatAt, shiftIn, countOk, headerLength, headerQuestions, isInterlaced, FrameRead, frameRead}
 use Rattle.parser.specs.Frame.{dcStreams, parseOf}
 use Rattle.layout.proofs.Laws.{sized, Sized}
-use Rattle.header.proofs.Laws.{all-yes}
+use Rattle.parser.proofs.head.Laws.{all-yes}
 use Rattle.parser.proofs.Laws.{dc-only, ac-too}
 use Rattle.builder.specs.Build.{formatByte, headerBytes, countByte}
-use Rattle.frameput.specs.Put.{streamBytes, allStreams, writeOf}
+use Rattle.builder.specs.streams.Put.{streamBytes, allStreams, writeOf}
 use Rattle.frames.specs.Whole.{Within}
 use Rattle.frames.proofs.Put.{stream-length}
 use Rattle.frames.proofs.Back.{streams-read}

@@ -9,12 +9,12 @@ use lib.ListN.{length, length-append}
 use borrow.Author.Tests.{ltb-true, ltb-false}
 use Rattle.ask.specs.Ask.{Answer, refused, accepted}
 use Rattle.layout.specs.Geometry.{sizeOk, sliceCount, maxDcLen, maxAcLen}
-use Rattle.streams.specs.Streams.{oneStream, streams}
-use Rattle.header.specs.Header.{FrameRead}
+use Rattle.parser.specs.streams.Streams.{oneStream, streams}
+use Rattle.parser.specs.head.Header.{FrameRead}
 use Rattle.parser.specs.Frame.{dcStreams, nthStream, parseOf, viewOf, wanted}
 use Rattle.parser.proofs.Laws.{ac-nth, view-yes, view-beyond, view-unwanted}
 use Rattle.builder.specs.Build.{headerBytes, countByte}
-use Rattle.frameput.specs.Put.{streamBytes, allStreams, writeOf}
+use Rattle.builder.specs.streams.Put.{streamBytes, allStreams, writeOf}
 use Rattle.frames.specs.Whole.{Within, AllOrNone, Complete, ofKind, streamAt, bytesOf}
 use Rattle.frames.proofs.Put.{stream-length}
 use Rattle.frames.proofs.Back.{one-read, its-bytes}

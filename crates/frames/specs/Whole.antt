@@ -8,7 +8,7 @@ use Rattle.ask.specs.Ask.{Answer, refused, accepted, andThen}
 use Rattle.layout.specs.Geometry.{sizeOk, sliceCount, maxDcLen, maxAcLen}
 use Rattle.parser.specs.Frame.{View}
 use Rattle.builder.specs.Build.{Build, Built, headerOf}
-use Rattle.frameput.specs.Put.{streamOf}
+use Rattle.builder.specs.streams.Put.{streamOf}
 
 -- streams of one kind, those of the slices k, k + 1, .. in turn
 unfoldable pub putAll : Build → Bool → ℕ → List (List ℕ) → List ℕ → Answer Built

@@ -1,2 +1,4 @@
 pub mod Rows
 pub mod Parts
+pub mod tails
+pub mod order

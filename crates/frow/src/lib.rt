@@ -1,15 +1,17 @@
 // The row pass of the forward transform (dct.rs, fdct_row): each coefficient is a sum of four products, rounded, shifted and saturated.
+pub mod order;
 mod parts;
+pub mod tails;
 
 ghost use mathlib.Core.Path.{_≡_};
 ghost use Rattle.frow.specs.Rows.{rowsOf};
-use frow_order::diffs;
-use frow_order::half;
-use frow_order::join;
-use frow_order::mirror;
-use frow_order::pairs;
-use frow_order::spread;
-use frow_order::sums;
+use crate::order::diffs;
+use crate::order::half;
+use crate::order::join;
+use crate::order::mirror;
+use crate::order::pairs;
+use crate::order::spread;
+use crate::order::sums;
 
 // The row pass of a block.
 pub fn row_pass(c: [i16; 64]) -> [i16; 64]

@@ -20,9 +20,9 @@ use Rattle.irow.specs.Stages.{pairUpOf, shiftedOf, mirrorOf, pairedRows, invers
 use Rattle.irow.proofs.Pass.{rows-law, shift-law}
 use Rattle.paint.specs.Samples.{tenOf, sampleOf, flatSample}
 use Rattle.paint.specs.Paint.{sampleAt}
-use Rattle.icols.specs.Columns.{eightAt, columnAt, columnsOf, levelOf}
-use Rattle.icols.proofs.Mirror.{columns-mirror}
-use Rattle.icols.proofs.Level.{columns-level}
+use Rattle.idct.specs.columns.Columns.{eightAt, columnAt, columnsOf, levelOf}
+use Rattle.idct.proofs.columns.Mirror.{columns-mirror}
+use Rattle.idct.proofs.columns.Level.{columns-level}
 use Rattle.idct.specs.Inverse.{rowRound, rowShift, colRound, colCorr, colShift, roundingsOf, inverseOf, samplesOf}
 use Rattle.idct.specs.declared.Roundings.{Roundings}
 

@@ -7,8 +7,8 @@ use lib.IntN.{ℤ, pos, negsuc}
 use Rattle.scalar.specs.Scalar.{sat16, wrap16, wrap32, addsOf, subsOf, mulhiOf, sraOf, orOf}
 use Rattle.scalar.specs.Tab.{tabFrom}
 use Rattle.irow.specs.RowPass.{tab04, tab17, tab26, tab35, rowLane, rowsOf}
-use Rattle.icol.specs.Steps.{_▸_, oddOf, evenOf, sumOf, diffOf, joinOf, columnOf}
-use Rattle.icols.specs.Columns.{columnAt, columnsOf}
+use Rattle.idct.specs.column.Steps.{_▸_, oddOf, evenOf, sumOf, diffOf, joinOf, columnOf}
+use Rattle.idct.specs.columns.Columns.{columnAt, columnsOf}
 use Rattle.idct.specs.Inverse.{inverseOf}
 
 wide : List ℤ

@@ -6,7 +6,7 @@ use lib.IntN.{ℤ, pos}
 use Rattle.scalar.specs.Tab.{tab}
 use Rattle.irow.specs.RowPass.{lane, rowsOf}
 use Rattle.paint.specs.Samples.{sampleOf}
-use Rattle.icols.specs.Columns.{columnsOf}
+use Rattle.idct.specs.columns.Columns.{columnsOf}
 use Rattle.idct.specs.declared.Roundings.{Roundings}
 
 abbrev pub rowRound : Bool → ℤ

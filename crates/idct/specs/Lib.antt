@@ -1,1 +1,3 @@
 pub mod Inverse
+pub mod column
+pub mod columns

@@ -1,11 +1,14 @@
 // The inverse transform of a block: the row pass, then the columns, then the samples.
+pub mod column;
+pub mod columns;
+
 ghost use mathlib.Core.Bool.{true, false};
 ghost use mathlib.Core.Path.{_≡_};
 ghost use Prim.Native.Nat.{_<_};
 ghost use lib.IntN.{pos};
 ghost use Rattle.irow.specs.Stages.{shiftedOf, mirrorOf};
 ghost use Rattle.paint.specs.Samples.{tenOf};
-ghost use Rattle.icols.specs.Columns.{levelOf};
+ghost use Rattle.idct.specs.columns.Columns.{levelOf};
 ghost use Rattle.idct.specs.Inverse.{roundingsOf, inverseOf, samplesOf};
 
 // Of a depth: the rounding and the shift of the rows, the roundings of a column's sums and differences and their shift.
@@ -65,7 +68,7 @@ pub fn inverse(a: [i16; 64], n: u32, ten: bool) -> [i16; 64]
     let k = of_depth(ten);
     let b = irow::pair_up(a);
     let w = irow::paired_rows(&b, n, k.row_round, k.row_shift);
-    let v = icols::columns(w, k.round, k.corr, k.shift, 0);
+    let v = crate::columns::columns(w, k.round, k.corr, k.shift, 0);
     mirror(v)
 }
 

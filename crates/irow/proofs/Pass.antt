@@ -13,10 +13,10 @@ use Rattle.scalar.specs.Scalar.{wrap32, sraOf, maddOf}
 use Rattle.scalar.specs.Tab.{tab}
 use Rattle.scalar.proofs.Fill.{length-tab, getD-tab, tab-ext}
 use Rattle.scalar.proofs.InRows.{row-of, col-of}
-use Rattle.irow_pairs.specs.Pairs.{spreadPlace, spreadOf, pairsOf, evensOf, oddsOf}
-use Rattle.irow_pairs.specs.declared.Two.{Two}
-use Rattle.irow_sums.specs.Sums.{laneOf, halfOf, sideOf, rowsFrom}
-use Rattle.irow_sums.proofs.Sums.{left-is, right-is, half-at}
+use Rattle.irow.specs.pairs.Pairs.{spreadPlace, spreadOf, pairsOf, evensOf, oddsOf}
+use Rattle.irow.specs.declared.pairs.Two.{Two}
+use Rattle.irow.specs.sums.Sums.{laneOf, halfOf, sideOf, rowsFrom}
+use Rattle.irow.proofs.sums.Sums.{left-is, right-is, half-at}
 use Rattle.irow.specs.RowPass.{lane, rowTab, pairSum, evenSum, oddSum, rounded, pickZ, rowLane, rowsOf}
 use Rattle.irow.specs.Stages.{pairPlace, pairUpOf, shiftedOf, groupOf, inverseTab, mirrorPlace, mirrorOf, pairedRows}
 use Rattle.irow.proofs.Place.{pair-lt}

@@ -1,2 +1,4 @@
 pub mod RowPass
 pub mod Stages
+pub mod pairs
+pub mod sums

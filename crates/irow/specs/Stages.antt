@@ -7,8 +7,8 @@ use lib.IntN.{ℤ}
 use lib.ListN.{getD}
 use Rattle.scalar.specs.Scalar.{sraOf}
 use Rattle.scalar.specs.Tab.{tab}
-use Rattle.irow_pairs.specs.Pairs.{spreadOf, pairsOf}
-use Rattle.irow_sums.specs.Sums.{rowsFrom}
+use Rattle.irow.specs.pairs.Pairs.{spreadOf, pairsOf}
+use Rattle.irow.specs.sums.Sums.{rowsFrom}
 use Rattle.irow.specs.RowPass.{lane, rowTab}
 
 -- each row's numbers in the order 0 2 1 3 4 6 5 7: those that are multiplied in pairs stand side by side

@@ -1,5 +1,8 @@
 // The row pass of the inverse transform on a whole block, in stages that run on vectors: the products of neighbours in one loop
-// (irow_pairs), their sums in the next (irow_sums).
+// (irow::pairs), their sums in the next (irow::sums).
+pub mod pairs;
+pub mod sums;
+
 ghost use mathlib.Core.Path.{_≡_};
 ghost use Prim.Native.Nat.{_<_};
 ghost use Rattle.irow.specs.Stages.{pairUpOf, shiftedOf, inverseTab, pairedRows};
@@ -302,11 +305,11 @@ pub fn paired_rows(a: &[i16; 64], n: u32, round: i32, shift: u32) -> [i16; 64]
 {
     let t = table();
     let b = shifted(a, n);
-    let e = irow_pairs::evens(&b, &t);
-    let o = irow_pairs::odds(&b, &t);
+    let e = crate::pairs::evens(&b, &t);
+    let o = crate::pairs::odds(&b, &t);
     let m0 = e.near;
     let m1 = e.far;
     let m2 = o.near;
     let m3 = o.far;
-    irow_sums::rows(m0, m1, m2, m3, round, shift)
+    crate::sums::rows(m0, m1, m2, m3, round, shift)
 }

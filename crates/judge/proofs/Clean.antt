@@ -9,14 +9,14 @@ use lib.ListN.{drop, getD}
 use Rattle.ask.specs.Ask.{Answer, refused, accepted}
 use Rattle.bits.specs.Bits.{Stream, bitAt}
 use Rattle.bits.specs.Read.{readSymbol, readDc}
-use Rattle.bitscan.specs.Six.{noSixZeros}
-use Rattle.bitscan.proofs.Codes.{SymbolTo, DcTo, symbol-to, code-to, no-symbol, no-dc}
+use Rattle.bitreader.specs.scan.Six.{noSixZeros}
+use Rattle.bitreader.proofs.scan.Codes.{SymbolTo, DcTo, symbol-to, code-to, no-symbol, no-dc}
 use Rattle.calls.specs.ReadPlane.{Blocks, badBlocks, blocks, readBlocks, DcSteps, badSteps, dcSteps, readSteps}
 use Rattle.calls.specs.Grid.{blocksOf}
-use Rattle.dcread.specs.Steps.{dcEnd}
+use Rattle.blockread.specs.dc.Steps.{dcEnd}
 use Rattle.preview.proofs.Ends.{StepsTo, steps-to}
-use Rattle.acthrough.specs.Through.{acEnd}
-use Rattle.acthrough.proofs.Ends.{BlocksTo, blocks-to}
+use Rattle.acread.specs.through.Through.{acEnd}
+use Rattle.acread.proofs.through.Ends.{BlocksTo, blocks-to}
 use Rattle.judge.specs.Good.{dcPlane, acPlane}
 
 abbrev pub AnswerTo : Type 0 → ℕ → ℕ → Answer ℕ → Type 0

@@ -14,8 +14,8 @@ use Rattle.calls.specs.Grid.{blocksOf}
 use Rattle.calls.specs.Questions.{each, strideOk}
 use Rattle.slice.specs.Calls.{PlanesRead, badPlanes, planesRead, planeThen, byPlane, readPlanes}
 use Rattle.calls.proofs.Asked.{and-l, and-r, stride-le}
-use Rattle.dcread.specs.Steps.{goodSteps, dcEnd}
-use Rattle.acthrough.specs.Through.{blockEnds, goodEnds, acEnd}
+use Rattle.blockread.specs.dc.Steps.{goodSteps, dcEnd}
+use Rattle.acread.specs.through.Through.{blockEnds, goodEnds, acEnd}
 use Rattle.blockread.specs.On.{goodPlane}
 use Rattle.judge.specs.Good.{goodPlanes, strides, dcPlane, acPlane, goesOn, goodInTurn}
 

@@ -8,8 +8,8 @@ use Rattle.calls.specs.Arguments.{Plane, PerStream, Buffers}
 use Rattle.calls.specs.ReadPlane.{readSteps, readBlocks}
 use Rattle.calls.specs.Grid.{blocksOf}
 use Rattle.slice.specs.Calls.{PlanesRead, badPlanes, planesRead}
-use Rattle.dcread.specs.Steps.{dcEnd}
-use Rattle.acthrough.specs.Through.{acEnd}
+use Rattle.blockread.specs.dc.Steps.{dcEnd}
+use Rattle.acread.specs.through.Through.{acEnd}
 
 -- no bad code in any of the planes read
 abbrev pub goodPlanes : PlanesRead → Bool

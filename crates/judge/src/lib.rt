@@ -1,5 +1,7 @@
 // Is there a bad code in what a reading call reaches? Judged before any sample is stored.
 // A stream without six zero bytes in a row holds none (bitscan); only another is read through. Each stream is judged by itself.
+pub mod verdict;
+
 ghost use mathlib.Core.Path.{_≡_};
 ghost use mathlib.Core.List.{List, [], _∷_};
 ghost use Prim.Native.Nat.{ℕ, _*_, _^_, _≤_, _<_};
@@ -40,7 +42,7 @@ fn dc_good(
     requires { ⌜ (d < 2 ^ 30) × (count ≤ 4) × ((k : ℕ) → k < count → getD (stride0 ∷ stride1 ∷ stride2 ∷ stride3 ∷ []) k 0 ≤ 7680) ⌝ }
     ensures { λ r. ⌜ r ≡ goodInTurn (dcPlane (now (dc .entry))) (take count (stride0 ∷ stride1 ∷ stride2 ∷ stride3 ∷ [])) d ⌝ }
 {
-    if bitscan::no_six_zeros(dc, d) {
+    if bitreader::scan::no_six_zeros(dc, d) {
         return true;
     }
     let mut at = d;
@@ -71,18 +73,18 @@ fn ac_good(
     requires { ⌜ (a < 2 ^ 30) × (count ≤ 4) × ((k : ℕ) → k < count → getD (stride0 ∷ stride1 ∷ stride2 ∷ stride3 ∷ []) k 0 ≤ 7680) ⌝ }
     ensures { λ r. ⌜ r ≡ goodInTurn (acPlane (now (ac .entry))) (take count (stride0 ∷ stride1 ∷ stride2 ∷ stride3 ∷ [])) a ⌝ }
 {
-    if bitscan::no_six_zeros(ac, a) {
+    if bitreader::scan::no_six_zeros(ac, a) {
         return true;
     }
     let mut at = a;
     let mut k = 0;
     while k < count {
         let stride = stride_at(k, stride0, stride1, stride2, stride3);
-        match acthrough::through_ac(ac, at, stride / 8) {
-            acthrough::PlaneEnd::At(e) => {
+        match acread::through::through_ac(ac, at, stride / 8) {
+            acread::through::PlaneEnd::At(e) => {
                 at = e;
             }
-            acthrough::PlaneEnd::Refused(n) => return false,
+            acread::through::PlaneEnd::Refused(n) => return false,
         }
         k += 1;
     }
@@ -95,7 +97,7 @@ pub fn plane(dc: &[u8], d: usize, ac: &[u8], a: usize, columns: usize) -> bool
     ensures { λ r. ⌜ ((shift : ℕ) → r ≡ goodPlane (readPlane shift (2 * columns) (now (dc .entry)) (now (ac .entry)) d a)) ⌝ }
 {
     if preview::plane_good(dc, d, columns) {
-        return acthrough::plane_good(ac, a, columns);
+        return acread::through::plane_good(ac, a, columns);
     }
     false
 }

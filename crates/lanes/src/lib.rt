@@ -1,6 +1,15 @@
-// Vectors of 128 bits as arrays of lanes. The operations of lanes.rs on them, one loop over the lanes each, are in the crates lanes_*;
+// Vectors of 128 bits as arrays of lanes. The operations of lanes.rs on them, one loop over the lanes each, are in the modules of lanes;
 // the definitions of all of them (specs/Lanes.antt) and the loop's law (proofs/Turns.antt) are here, and how a vector is made.
 // Each means what the Intel intrinsic does whose name its definition has.
+pub mod order;
+pub mod packs;
+pub mod pair_products;
+pub mod products;
+pub mod shifts;
+pub mod signs;
+pub mod sums;
+pub mod wide;
+
 ghost use mathlib.Core.Path.{_≡_};
 ghost use Rattle.lanes.specs.Lanes.{mm-set1-epi16, mm-set1-epi32, mm-loadu-si128};
 

@@ -9,7 +9,7 @@ use lib.Dec.{ltb}
 use lib.ListN.{length, getD, set, replicate, getD-replicate}
 use borrow.Author.Tests.{lt-ltb, le-ltb}
 use Rattle.paint.specs.Paint.{over, pickN, both, sampleAt, storeBlock}
-use Rattle.paint_row.specs.Row.{putRow}
+use Rattle.paint.specs.row.Row.{putRow}
 use Rattle.paint.proofs.Over.{by-eq, by-lt, over-set, over-none, over-by, getD-over, length-over}
 
 -- the first k samples of the block are stored at the corner

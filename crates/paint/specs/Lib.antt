@@ -1,2 +1,4 @@
 pub mod Paint
 pub mod Samples
+pub mod flats
+pub mod row

@@ -1,12 +1,15 @@
 // The block writers: each receives the rows from the block's corner on and stores 8 by 8 samples at the stride.
+pub mod flats;
+pub mod row;
+
 ghost use mathlib.Core.Path.{_≡_};
 ghost use Prim.Native.Nat.{_+_, _*_, _≤_};
 ghost use lib.ListN.{length};
 ghost use Rattle.paint.specs.Paint.{storeBlock, sampleAt};
 ghost use Rattle.paint.specs.Samples.{flatSample};
-use paint_row::put8;
-use paint_row::put16;
-use samples::flat;
+use crate::flats::flat;
+use crate::row::put8;
+use crate::row::put16;
 
 // Stores the 8 by 8 samples of a block into the rows from its corner on.
 pub fn store8(rows: &mut [u8], stride: usize, p: &[u8; 64])

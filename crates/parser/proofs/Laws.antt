@@ -11,10 +11,10 @@ use borrow.Author.Tests.{lt-ltb, le-ltb, ltb-true, ltb-false}
 use Rattle.ask.specs.Ask.{Answer, refused, accepted, ask, firstNo, asked, andThen, byNumber}
 use Rattle.layout.specs.Geometry.{sliceCount, maxDcLen, maxAcLen}
 use Rattle.layout.specs.Views.{isAc}
-use Rattle.streams.proofs.Laws.{one-inside, streams-inside, one-end}
-use Rattle.streams.specs.Streams.{lengthAt, oneStream, streams}
-use Rattle.header.proofs.Laws.{begins-inside}
-use Rattle.header.specs.Header.{formatAt, headerLength, headerQuestions, FrameRead, frameRead}
+use Rattle.parser.proofs.streams.Laws.{one-inside, streams-inside, one-end}
+use Rattle.parser.specs.streams.Streams.{lengthAt, oneStream, streams}
+use Rattle.parser.proofs.head.Laws.{begins-inside}
+use Rattle.parser.specs.head.Header.{formatAt, headerLength, headerQuestions, FrameRead, frameRead}
 use Rattle.parser.specs.Frame.{dcStreams, parseOf, View, partAt, kindStart, kindLimit, wanted, nthStream, kindView, viewOf}
 use Rattle.parser.specs.Views.{viewSays}
 use Rattle.layout.specs.declared.Kind.{Kind}

@@ -6,8 +6,8 @@ use lib.Dec.{ltb}
 use lib.ListN.{length, take, drop}
 use Rattle.ask.specs.Ask.{Answer, refused, accepted, ask, asked, andThen}
 use Rattle.layout.specs.Geometry.{sliceCount, maxDcLen, maxAcLen}
-use Rattle.streams.specs.Streams.{lengthAt, oneStream, streams}
-use Rattle.header.specs.Header.{headerLength, headerQuestions, FrameRead, frameRead}
+use Rattle.parser.specs.streams.Streams.{lengthAt, oneStream, streams}
+use Rattle.parser.specs.head.Header.{headerLength, headerQuestions, FrameRead, frameRead}
 
 -- "all DC streams, then all AC streams"
 abbrev pub dcStreams : ℕ → ℕ → List ℕ → Answer ℕ

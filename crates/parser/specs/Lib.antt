@@ -1,2 +1,4 @@
 pub mod Frame
 pub mod Views
+pub mod streams
+pub mod head

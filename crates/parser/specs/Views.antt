@@ -1,7 +1,7 @@
 -- What the code's types say, in the definitions' terms. One function for each type.
 use Rattle.ask.specs.Ask.{Answer, refused, accepted}
-use Rattle.header.specs.Header.{FrameRead}
-use Rattle.header.specs.Views.{headerSays}
+use Rattle.parser.specs.head.Header.{FrameRead}
+use Rattle.parser.specs.head.Views.{headerSays}
 use Rattle.parser.specs.Frame.{View}
 use Rattle.parser.specs.declared.FrameAnswer.{FrameAnswer}
 use Rattle.parser.specs.declared.FrameAnswer.the-variants as frame

@@ -1,9 +1,12 @@
 // Reading the compressed frame container (layout.rs).
 //
 // A frame is a header, then the DC streams of all slices in order, then the AC streams of all slices or of none.
-use header::Header;
+pub mod head;
+pub mod streams;
+
+use crate::head::Header;
+use crate::streams::Place;
 use layout::Kind;
-use streams::Place;
 ghost use mathlib.Core.Path.{_≡_};
 ghost use mathlib.Core.List.{[], _∷_};
 ghost use Prim.Native.Nat.{ℕ, _<_, _≤_};
@@ -11,8 +14,8 @@ ghost use lib.Dec.{ltb};
 ghost use lib.ListN.{length};
 ghost use Rattle.ask.specs.Ask.{accepted, ask, asked, numberIn};
 ghost use Rattle.layout.specs.Views.{isAc};
-ghost use Rattle.streams.specs.Streams.{streams};
-ghost use Rattle.streams.specs.Views.{placeSays};
+ghost use Rattle.parser.specs.streams.Streams.{streams};
+ghost use Rattle.parser.specs.streams.Views.{placeSays};
 ghost use Rattle.parser.specs.Frame.{parseOf, nthStream, viewOf, viewPart};
 ghost use Rattle.parser.specs.Views.{frameSays, viewSays};
 
@@ -31,22 +34,22 @@ pub enum ViewAnswer {
 pub fn parse(width: usize, height: usize, frame: &[u8]) -> FrameAnswer
     ensures { λ r. ⌜ frameSays r ≡ parseOf width height (now (frame .entry)) ⌝ }
 {
-    let x = header::header_number(width, height, frame);
+    let x = crate::head::header_number(width, height, frame);
     if 0 < x {
         return FrameAnswer::Refused(x);
     }
     let slices = layout::slice_count(height);
-    let at = header::format_at(frame);
-    match streams::walk(frame, slices, layout::max_dc_len(width), at + 3) {
+    let at = crate::head::format_at(frame);
+    match crate::streams::walk(frame, slices, layout::max_dc_len(width), at + 3) {
         Place::Refused(x) => FrameAnswer::Refused(x),
         Place::At(q) => {
             if q < frame.len() {
-                match streams::walk(frame, slices, layout::max_ac_len(width), q) {
+                match crate::streams::walk(frame, slices, layout::max_ac_len(width), q) {
                     Place::Refused(x) => FrameAnswer::Refused(x),
-                    Place::At(_) => FrameAnswer::Frame(header::header_of(height, frame, true)),
+                    Place::At(_) => FrameAnswer::Frame(crate::head::header_of(height, frame, true)),
                 }
             } else {
-                FrameAnswer::Frame(header::header_of(height, frame, false))
+                FrameAnswer::Frame(crate::head::header_of(height, frame, false))
             }
         }
     }
@@ -58,11 +61,11 @@ fn walk_past(f: &[u8], n: usize, limit: usize, p: usize, skip: usize, noted: &mu
     ensures { λ r. ⌜ (placeSays r ≡ streams n limit (now (f .entry)) p) × ((e : ℕ) → streams n limit (now (f .entry)) p ≡ accepted e → skip < n → streams skip limit (now (f .entry)) p ≡ accepted (now (noted .exit))) ⌝ }
 {
     let k = if skip < n { skip } else { n };
-    match streams::walk(f, k, limit, p) {
+    match crate::streams::walk(f, k, limit, p) {
         Place::Refused(x) => Place::Refused(x),
         Place::At(q) => {
             *noted = q;
-            streams::walk(f, n - k, limit, q)
+            crate::streams::walk(f, n - k, limit, q)
         }
     }
 }
@@ -75,7 +78,7 @@ fn part_at(f: &[u8], limit: usize, q: usize, slice: usize, n: usize) -> ViewAnsw
     if n <= slice {
         return ViewAnswer::Refused(14);
     }
-    match streams::one_stream(f, limit, q) {
+    match crate::streams::one_stream(f, limit, q) {
         Place::Refused(x) => ViewAnswer::Refused(x),
         Place::At(e) => ViewAnswer::Part(q + 4, e - (q + 4)),
     }
@@ -85,12 +88,12 @@ fn part_at(f: &[u8], limit: usize, q: usize, slice: usize, n: usize) -> ViewAnsw
 pub fn view_at(width: usize, height: usize, frame: &[u8], kind: Kind, slice: usize) -> ViewAnswer
     ensures { λ r. ⌜ viewSays r ≡ viewOf width height (now (frame .entry)) (isAc kind) slice ⌝ }
 {
-    let x = header::header_number(width, height, frame);
+    let x = crate::head::header_number(width, height, frame);
     if 0 < x {
         return ViewAnswer::Refused(x);
     }
     let slices = layout::slice_count(height);
-    let at = header::format_at(frame);
+    let at = crate::head::format_at(frame);
     let max_dc_len = layout::max_dc_len(width);
     let max_ac_len = layout::max_ac_len(width);
     let mut dc = 0;

@@ -14,8 +14,8 @@ use Rattle.calls.specs.ReadPlane.{DcSteps, badSteps, dcSteps, readSteps}
 use Rattle.calls.specs.Grid.{blocksOf}
 use Rattle.calls.specs.Questions.{strideOk, previewQuestions}
 use Rattle.calls.specs.Previews.{Previewed, previewBytes, previewedBy, preview}
-use Rattle.dcread.specs.Steps.{goodSteps, stepList, dcEnd}
-use Rattle.previewrow.specs.Row.{Stored}
+use Rattle.blockread.specs.dc.Steps.{goodSteps, stepList, dcEnd}
+use Rattle.preview.specs.row.Row.{Stored}
 
 module _ (shift place stride : ℕ) (upper lower : List ℕ) (bytes at : ℕ) where
   abbrev F : ℕ

@@ -7,10 +7,10 @@ use native.Mathlib.Omega.{arith}
 use lib.ListN.{drop, getD}
 use Rattle.bits.specs.Bits.{Stream, bitAt}
 use Rattle.bits.specs.Read.{DcCode, badDc, zeroStep, step, readDc}
-use Rattle.bitscan.specs.Six.{noSixZeros}
-use Rattle.bitscan.proofs.Codes.{DcTo, no-dc}
+use Rattle.bitreader.specs.scan.Six.{noSixZeros}
+use Rattle.bitreader.proofs.scan.Codes.{DcTo, no-dc}
 use Rattle.calls.specs.ReadPlane.{DcStep, keep, replace, DcSteps, badSteps, dcSteps, stepThen, byDcCode, readSteps}
-use Rattle.dcread.specs.Steps.{goodSteps}
+use Rattle.blockread.specs.dc.Steps.{goodSteps}
 
 abbrev pub StepsTo : Type 0 → ℕ → ℕ → DcSteps → Type 0
 StepsTo B a b badSteps = B

@@ -1,1 +1,3 @@
 pub mod Answer
+pub mod row
+pub mod report

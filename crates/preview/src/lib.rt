@@ -1,5 +1,8 @@
 // The preview of a plane, from its DC stream alone (slice.rs, decode_plane_preview).
 // The stream is judged before a byte is stored: one without six zero bytes in a row holds no bad code, only another is read through.
+pub mod report;
+pub mod row;
+
 ghost use mathlib.Core.Path.{_≡_};
 ghost use mathlib.Core.Bool.{true};
 ghost use mathlib.Core.List.{List};
@@ -10,7 +13,7 @@ ghost use Rattle.bits.specs.Bits.{bitAt};
 ghost use Rattle.calls.specs.ReadPlane.{readSteps};
 ghost use Rattle.calls.specs.Questions.{previewQuestions};
 ghost use Rattle.calls.specs.Previews.{preview};
-ghost use Rattle.dcread.specs.Steps.{goodSteps, dcEnd};
+ghost use Rattle.blockread.specs.dc.Steps.{goodSteps, dcEnd};
 ghost use Rattle.preview.specs.Answer.{endSays, previewSays};
 
 // Where a plane ends: the byte behind its stream, or the number of a refusal.
@@ -48,7 +51,7 @@ pub fn plane_good(dc: &[u8], at: usize, columns: usize) -> bool
     requires { ⌜ (at < 2 ^ 31) × (columns ≤ 960) ⌝ }
     ensures { λ r. ⌜ r ≡ goodSteps (readSteps (2 * columns) (bitAt (now (dc .entry))) (8 * at)) ⌝ }
 {
-    if bitscan::no_six_zeros(dc, at) {
+    if bitreader::scan::no_six_zeros(dc, at) {
         return true;
     }
     match through_dc(dc, at, columns) {
@@ -75,7 +78,7 @@ fn preview_number(
     if 3 < place {
         return 3;
     }
-    if askone::stride_ok(stride) {
+    if questions::one::stride_ok(stride) {
         if over < stride / 8 {
             return 5;
         }
@@ -111,7 +114,7 @@ pub fn preview(
     }
     let columns = stride / 8;
     if plane_good(dc, at, columns) {
-        return PlaneEnd::At(previewrow::store_preview(
+        return PlaneEnd::At(crate::row::store_preview(
             shift,
             place as usize,
             columns,

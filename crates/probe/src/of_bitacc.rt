@@ -1,6 +1,6 @@
-// The bit writer (crate bitacc).
+// The bit writer (crate bitwriter).
 ghost use Rattle.probe_pairs.specs.Kept.{Going, Fits};
-use bitacc::BitAcc;
+use bitwriter::BitAcc;
 
 fn value(a: BitAcc, c: u32, out: &mut [u8]) -> BitAcc
     requires { ⌜ Going a × Fits a (now out) ⌝ }
@@ -9,7 +9,7 @@ fn value(a: BitAcc, c: u32, out: &mut [u8]) -> BitAcc
     if c == 0 {
         return a;
     }
-    bitacc::put_value(a, c, out)
+    bitwriter::put_value(a, c, out)
 }
 
 fn run(a: BitAcc, n: u32, out: &mut [u8]) -> BitAcc
@@ -19,7 +19,7 @@ fn run(a: BitAcc, n: u32, out: &mut [u8]) -> BitAcc
     if 2147483647 < n {
         return a;
     }
-    bitacc::put_run(a, n, out)
+    bitwriter::put_run(a, n, out)
 }
 
 fn run_value(a: BitAcc, n: u32, c: u32, out: &mut [u8]) -> BitAcc
@@ -35,7 +35,7 @@ fn run_value(a: BitAcc, n: u32, c: u32, out: &mut [u8]) -> BitAcc
     if 131071 < n {
         return a;
     }
-    bitacc::put_run_value(a, n, c, out)
+    bitwriter::put_run_value(a, n, c, out)
 }
 
 fn one(a: BitAcc, kind: u8, n: u32, c: u32, out: &mut [u8]) -> BitAcc
@@ -66,7 +66,7 @@ fn end(a: BitAcc, out: &mut [u8]) -> usize
     if out.len() - 16 < p {
         return p;
     }
-    let r = bitacc::align(a, out);
+    let r = bitwriter::align(a, out);
     r.pos
 }
 

@@ -20,7 +20,7 @@ pub extern "C" fn probe_dct_forward(
     out: &mut [i16],
 ) {
     if preset < 25 {
-        let k = reciprocals::encode_numbers(preset);
+        let k = tables::reciprocals::encode_numbers(preset);
         let z = dct::forward::fdct_quant_zig(block(rows), add, column_shift(ten), preset, &k);
         put_block(out, z);
     }

@@ -1,4 +1,4 @@
-// The quantiser numbers and the scan (crates tables, reciprocals).
+// The quantiser numbers and the scan (crates tables, tables::reciprocals).
 
 // Number i of a preset's 192: the corrections, the reciprocals, the scales of its 64 places (`encode` of QuantTables).
 #[no_mangle]
@@ -6,7 +6,7 @@ pub extern "C" fn probe_tables_encode(preset: usize, i: usize) -> u16 {
     if 24 < preset {
         return 0;
     }
-    let k = reciprocals::encode_numbers(preset);
+    let k = tables::reciprocals::encode_numbers(preset);
     if i < 192 { k[i] } else { 0 }
 }
 

@@ -9,9 +9,9 @@ use Rattle.bits.specs.Bits.{bitsOf, bitLength, valueCode, runCode}
 use Rattle.bits.proofs.Leading.{length-le}
 use Rattle.bits.proofs.Codes.{length-bitsOf}
 use Rattle.bits.proofs.CodeWord.{value-length, run-length}
-use Rattle.bitacc.specs.Put.{Put, Room, LastRoom}
-use Rattle.bitacc.specs.declared.BitAcc.{BitAcc}
-use Rattle.bitacc.proofs.Writer.{wrote-count}
+use Rattle.bitwriter.specs.Put.{Put, Room, LastRoom}
+use Rattle.bitwriter.specs.declared.BitAcc.{BitAcc}
+use Rattle.bitwriter.proofs.Writer.{wrote-count}
 use Rattle.probe_pairs.specs.Kept.{Going, Fits, Grown}
 
 pub room-of : (a : BitAcc) (n : ℕ) (o : List ℕ) → Going a × Fits a o → n ≤ 63 → Room a n o

@@ -2,7 +2,7 @@
 use mathlib.Core.List.{List}
 use Prim.Native.Nat.{ℕ, _+_, _*_, _^_, _≤_, _<_}
 use lib.ListN.{length}
-use Rattle.bitacc.specs.declared.BitAcc.{BitAcc}
+use Rattle.bitwriter.specs.declared.BitAcc.{BitAcc}
 
 -- a bit writer that can go on: few bits wait, and they are the low ones
 abbrev pub Going : BitAcc → Type 0

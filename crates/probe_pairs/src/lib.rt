@@ -3,7 +3,7 @@
 ghost use mathlib.Core.Path.{_≡_};
 ghost use mathlib.Core.Bool.{true};
 ghost use Prim.Native.Nat.{_^_, _<_};
-use bitacc::BitAcc;
+use bitwriter::BitAcc;
 
 // Whether the writer takes a run and a value together.
 fn taken(n: u32, c: u32) -> bool
@@ -48,9 +48,9 @@ pub extern "C" fn probe_pairs_write(
         if !taken(n, c) {
             return 0;
         }
-        a = bitacc::put_run_value(a, n, c, out);
+        a = bitwriter::put_run_value(a, n, c, out);
         i += 1;
     }
-    let r = bitacc::align(a, out);
+    let r = bitwriter::align(a, out);
     r.pos
 }

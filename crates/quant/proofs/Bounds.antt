@@ -15,7 +15,7 @@ use Rattle.tables.specs.Zigzag.{zigzagAt}
 use Rattle.tables.proofs.Rounding.{rounded-bound, rounded-last}
 use Rattle.tables.proofs.Scan.{zigzag-below, zigzag-last}
 use Rattle.quant.specs.Quantise.{coefficient, roundedDivision, quantiseOf, scanOf, dequantised, dequantiseBy}
-use Rattle.quant_one.proofs.Signs.{with-sign-abs, magnitude-small, magnitude-fits}
+use Rattle.quant.proofs.one.Signs.{with-sign-abs, magnitude-small, magnitude-fits}
 use Rattle.quant.proofs.Blocks.{quantise-at, scan-at, dequantise-at}
 
 module _ (p : ℕ) (hp : p < 25) (l : List ℤ) (h : (j : ℕ) → j < 64 → SFits w16 (coefficient l j)) where

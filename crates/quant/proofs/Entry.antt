@@ -16,7 +16,7 @@ use Rattle.tables.proofs.Rounding.{entry-rounds, correction-small, rounded-boun
 use Rattle.tables.proofs.Places.{encode-correction, encode-reciprocal, encode-scale, divisors-at}
 use Rattle.tables.proofs.Sizes.{divisor-high}
 use Rattle.quant.specs.Quantise.{withSign, roundedDivision, dequantised}
-use Rattle.quant_one.proofs.Signs.{magnitude-small}
+use Rattle.quant.proofs.one.Signs.{magnitude-small}
 
 module _ (p i : ℕ) (k : List ℕ) (x : ℤ) (hp : p < 25) (hi : i < 64) (e : k ≡ encodeOf p) (h : SFits w16 x) where
   multiplied : twoHigh (getD k i 0) (getD k (64 + i) 0) (getD k (128 + i) 0) (natAbs x) ≡ rounded (natAbs x) (divisor p i)

@@ -1,1 +1,3 @@
 pub mod Quantise
+pub mod one
+pub mod scan

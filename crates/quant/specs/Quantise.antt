@@ -8,9 +8,9 @@ use Rattle.scalar.specs.Tab.{tab}
 use Rattle.tables.specs.Divisor.{divisor}
 use Rattle.tables.specs.Reciprocal.{rounded}
 use Rattle.tables.specs.Zigzag.{unzigzagAt}
-unfoldable pub use Rattle.quant_one.specs.Sign.{withSign}
-pub use Rattle.scan.specs.Scan.{coefficient}
-unfoldable pub use Rattle.scan.specs.Scan.{scanOf}
+unfoldable pub use Rattle.quant.specs.one.Sign.{withSign}
+pub use Rattle.quant.specs.scan.Scan.{coefficient}
+unfoldable pub use Rattle.quant.specs.scan.Scan.{scanOf}
 
 -- "(x + divisor/2) / divisor" of the magnitude, with the sign; the magnitude of -32768 is 32768
 unfoldable pub roundedDivision : ℤ → ℕ → ℤ

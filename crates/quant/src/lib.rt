@@ -1,5 +1,8 @@
 // The quantiser and dequantising, on blocks of 64 by value (the end of `fdct_quant_zig` and the start of `idct8`, `idct16` of dct.rs), and the scan,
 // passed on. Each is a loop of its own over the whole block, or 64 moves: the forms that run in vectors.
+pub mod one;
+pub mod scan;
+
 ghost use mathlib.Core.Path.{_≡_};
 ghost use Prim.Native.Nat.{_<_};
 ghost use mir.Syntax.{w16};
@@ -8,8 +11,8 @@ ghost use Rattle.scalar.specs.Scalar.{mulloOf, sraOf};
 ghost use Rattle.tables.specs.Divisor.{divisorsOf};
 ghost use Rattle.tables.specs.Entries.{encodeOf};
 ghost use Rattle.quant.specs.Quantise.{quantiseOf, dequantiseBy};
-use quant_one::quant1;
-pub use scan::zigzag;
+use crate::one::quant1;
+pub use crate::scan::zigzag;
 
 // The block over the preset's divisors, rounded; k holds the preset's numbers.
 pub fn quant(w: [i16; 64], preset: usize, k: &[u16; 192]) -> [i16; 64]

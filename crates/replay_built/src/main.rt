@@ -3,7 +3,7 @@
 use builder::Builder;
 use builder::HeaderAnswer;
 use builder::Shift;
-use frameput::StreamAnswer;
+use builder::streams::StreamAnswer;
 use layout::Kind;
 use replay::count;
 use replay::number;
@@ -50,7 +50,7 @@ fn hand_over(b: &[u8; 1120], bytes: &[u8], k: usize, s: Builder, out: &mut [u8])
     let kind = kind_of(b[32 + 8 * k] == 1);
     let slice = wide(b[33 + 8 * k]);
     let stream = part(bytes, size(b, 36 + 8 * k), size(b, 38 + 8 * k));
-    frameput::put_stream(s, kind, slice, stream, out)
+    builder::streams::put_stream(s, kind, slice, stream, out)
 }
 
 // The answer to the k-th stream: whether its number is the record's, and the state behind it.

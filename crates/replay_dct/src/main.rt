@@ -62,7 +62,7 @@ fn column_shift(ten: bool) -> u32
 // Forward transform, quantiser and scan of a block.
 fn forward(nat: [i16; 64], add: i16, ten: bool, preset: usize) -> [i16; 64] {
     if preset < 25 {
-        let k = reciprocals::encode_numbers(preset);
+        let k = tables::reciprocals::encode_numbers(preset);
         let w = fdct::fdct(nat, add, column_shift(ten));
         let q = quant::quant(w, preset, &k);
         quant::zigzag(q)

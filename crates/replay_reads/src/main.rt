@@ -143,9 +143,9 @@ fn previewed(b: &[u8], c: Asked, dc: &[u8], upper: &mut [u8], lower: &mut [u8]) 
 
 // The block report, into the first plane's rows.
 fn reported(b: &[u8], c: Asked, ac: &[u8], rows: &mut [u8]) -> bool {
-    match report::block_report(c.strides.p0, cut(rows, c.counts.p0), ac, c.a) {
-        acthrough::PlaneEnd::Refused(x) => answered(b, x, c.d, c.a),
-        acthrough::PlaneEnd::At(e) => answered(b, 0, c.d, e),
+    match preview::report::block_report(c.strides.p0, cut(rows, c.counts.p0), ac, c.a) {
+        acread::through::PlaneEnd::Refused(x) => answered(b, x, c.d, c.a),
+        acread::through::PlaneEnd::At(e) => answered(b, 0, c.d, e),
     }
 }
 

@@ -28,7 +28,7 @@ fn quantiser(b: &[u8; 12], preset: usize, place: usize) -> bool {
     if 63 < place {
         return false;
     }
-    let k = reciprocals::encode_numbers(preset);
+    let k = tables::reciprocals::encode_numbers(preset);
     if k[place] != number(b, 6) {
         return false;
     }

@@ -1,16 +1,16 @@
 -- A lane's result, and its operands, each read back from its bits: as a loop over lanes finds them.
--- The operands' width is w, the result's v. Laws of the crates scalar_* that others cite are passed on.
+-- The operands' width is w, the result's v. Laws of the modules of scalar that others cite are passed on.
 use mathlib.Core.Path.{_≡_, refl, ap, _∙_}
 use lib.IntN.{ℤ}
 use mir.Syntax.{Width}
 use mir.Val.{SFits, toZ, ofZ}
 use mir.Facts.{toZ-ofZ}
-pub use Rattle.scalar_cuts.proofs.Widths.{wide16, back16}
-pub use Rattle.scalar_cuts.proofs.Shifts.{shr-fits, wrap16-fits}
-pub use Rattle.scalar_cuts.proofs.Nearest.{sat-fits}
-pub use Rattle.scalar_cuts.proofs.Patterns.{from-bits}
-pub use Rattle.scalar_products.proofs.Laws.{bits-prod}
-pub use Rattle.scalar_signs.proofs.Laws.{neg-is}
+pub use Rattle.scalar.proofs.cuts.Widths.{wide16, back16}
+pub use Rattle.scalar.proofs.cuts.Shifts.{shr-fits, wrap16-fits}
+pub use Rattle.scalar.proofs.cuts.Nearest.{sat-fits}
+pub use Rattle.scalar.proofs.cuts.Patterns.{from-bits}
+pub use Rattle.scalar.proofs.products.Laws.{bits-prod}
+pub use Rattle.scalar.proofs.signs.Laws.{neg-is}
 
 -- the bits of a number, read back
 abbrev pub back : Width → ℤ → ℤ

@@ -1,1 +1,3 @@
 pub mod Shuffles
+pub mod places
+pub mod mask

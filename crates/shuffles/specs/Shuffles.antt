@@ -4,8 +4,8 @@ use mathlib.Core.List.{List, [], _∷_}
 use Prim.Native.Nat.{ℕ}
 use lib.IntN.{ℤ}
 use Rattle.scalar.specs.Tab.{tab, lane}
-unfoldable pub use Rattle.shuffle_places.specs.Chosen.{selector, pairPlace, lowPlace, highPlace}
-unfoldable pub use Rattle.nonzero.specs.Mask.{flag, nonzeroMask}
+unfoldable pub use Rattle.shuffles.specs.places.Chosen.{selector, pairPlace, lowPlace, highPlace}
+unfoldable pub use Rattle.shuffles.specs.mask.Mask.{flag, nonzeroMask}
 
 unfoldable pub mm-shuffle-epi32 : List ℤ → ℕ → List ℤ
 mm-shuffle-epi32 a imm = tab 4 (λ k. lane a (selector imm k))

@@ -1,11 +1,14 @@
 // The operations of lanes.rs that move lanes, and the mask of a block's numbers that are not 0, passed on.
+pub mod mask;
+pub mod places;
+
 ghost use mathlib.Core.Path.{_≡_};
 ghost use Rattle.shuffles.specs.Shuffles.{mm-shuffle-epi32, mm-shuffle-epi32-16, mm-shufflelo-epi16, mm-shufflehi-epi16, mm-unpacklo-epi32-16};
-pub use nonzero::nonzero_mask;
-use shuffle_places::high_place;
-use shuffle_places::low_place;
-use shuffle_places::pair_place;
-use shuffle_places::selector;
+pub use crate::mask::nonzero_mask;
+use crate::places::high_place;
+use crate::places::low_place;
+use crate::places::pair_place;
+use crate::places::selector;
 
 // Four lanes of 32 bits, each chosen by two bits of imm.
 pub fn shuffle32(a: [i32; 4], imm: u8) -> [i32; 4]

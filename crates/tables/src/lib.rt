@@ -2,6 +2,7 @@
 // A preset's numbers are copied out of the constants once for each plane: a constant that a loop indexes would be built anew in each turn.
 mod divisors;
 pub mod quality;
+pub mod reciprocals;
 
 ghost use mathlib.Core.Path.{_≡_};
 ghost use Prim.Native.Nat.{_<_};

@@ -4,7 +4,7 @@ use Prim.Native.Nat.{ℕ, _*_}
 use lib.Dec.{leb}
 use Rattle.ask.specs.Ask.{Answer, Question, ask, asked}
 use Rattle.layout.specs.Geometry.{sliceCount}
-use Rattle.header.specs.Header.{FrameRead}
+use Rattle.parser.specs.head.Header.{FrameRead}
 use Rattle.parser.specs.Frame.{parseOf}
 
 -- question 5: two numbers for each of a slice's two streams

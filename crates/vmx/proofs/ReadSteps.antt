@@ -6,7 +6,7 @@ use denote.Ref.{RefT, now}
 use Rattle.calls.specs.Arguments.{eight, ten, Call, onePlane, PerStream, Buffers}
 use Rattle.slice.specs.Calls.{Decoded}
 use Rattle.encplane.specs.Coding.{settings, plane}
-use Rattle.plane_outs.specs.Planes.{decodedAs}
+use Rattle.outs.specs.plane.Planes.{decodedAs}
 use Rattle.vmx.proofs.Steps.{Streams, bytesIn, placesIn, FourRows, sliceOf}
 use Rattle.vmx.proofs.reading.vmx_decode_plane8.Reads as decode-plane8
 use Rattle.vmx.proofs.reading.vmx_decode_plane10.Reads as decode-plane10

@@ -7,9 +7,9 @@ use denote.Ref.{RefT, now}
 use Rattle.calls.specs.Arguments.{Settings, eight, ten, Call, onePlane, oneSlice, PerStream, Buffers}
 use Rattle.slice.specs.Calls.{Coded}
 use Rattle.encplane.specs.Coding.{settings, plane}
-use Rattle.encslice.specs.SliceCoding.{rows}
-use Rattle.answers.specs.Streams.{buffers, positions}
-use Rattle.plane_outs.specs.Planes.{codedAs}
+use Rattle.encoder.specs.by_slice.SliceCoding.{rows}
+use Rattle.questions.specs.answers.Streams.{buffers, positions}
+use Rattle.outs.specs.plane.Planes.{codedAs}
 use Rattle.vmx.proofs.coding.vmx_encode_plane8.Reads as encode-plane8
 use Rattle.vmx.proofs.coding.vmx_encode_plane10.Reads as encode-plane10
 use Rattle.vmx.proofs.coding.vmx_encode_slice8.Reads as encode-slice8

@@ -6,7 +6,7 @@ use lib.ListN.{take, drop}
 use Rattle.ask.specs.Ask.{Answer, refused, accepted, asked}
 use Rattle.builder.specs.Build.{Build}
 use Rattle.shown.specs.Shown.{shownQuestions, sliceSamples, wasAccepted, picked}
-use Rattle.frame_outs.specs.Outs.{isOn}
+use Rattle.outs.specs.frame.Outs.{isOn}
 
 -- the builder's state out of the numbers that the caller holds
 abbrev pub stateOf : ℕ → ℕ → ℕ → ℕ → ℕ → ℕ → Build

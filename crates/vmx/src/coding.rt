@@ -6,9 +6,9 @@ ghost use mathlib.Core.Path.{_≡_};
 ghost use Rattle.calls.specs.Arguments.{eight, ten};
 ghost use Rattle.slice.specs.Calls.{encodePlane, encodeSlice};
 ghost use Rattle.encplane.specs.Coding.{settings, plane};
-ghost use Rattle.encslice.specs.SliceCoding.{rows};
-ghost use Rattle.answers.specs.Streams.{buffers, positions};
-ghost use Rattle.plane_outs.specs.Planes.{codedAs};
+ghost use Rattle.encoder.specs.by_slice.SliceCoding.{rows};
+ghost use Rattle.questions.specs.answers.Streams.{buffers, positions};
+ghost use Rattle.outs.specs.plane.Planes.{codedAs};
 
 // Codes an 8-bit plane.
 #[no_mangle]
@@ -28,7 +28,7 @@ pub extern "C" fn vmx_encode_plane8(
     let d = *dc_at;
     let a = *ac_at;
     let r = encoder::encode_plane8(rows, stride, place, preset, shift, dc, d, ac, a);
-    plane_outs::coded_out(r, dc_at, ac_at)
+    outs::plane::coded_out(r, dc_at, ac_at)
 }
 
 // Codes a 10-bit plane.
@@ -49,7 +49,7 @@ pub extern "C" fn vmx_encode_plane10(
     let d = *dc_at;
     let a = *ac_at;
     let r = encoder::encode_plane10(rows, stride, place, preset, shift, dc, d, ac, a);
-    plane_outs::coded_out(r, dc_at, ac_at)
+    outs::plane::coded_out(r, dc_at, ac_at)
 }
 
 // Codes the first `count` of four 8-bit planes, places 0 to 3, one behind the other.
@@ -92,7 +92,7 @@ pub extern "C" fn vmx_encode_slice8(
         ac,
         a,
     );
-    plane_outs::coded_out(coded, dc_at, ac_at)
+    outs::plane::coded_out(coded, dc_at, ac_at)
 }
 
 // Codes the first `count` of four 10-bit planes, places 0 to 3, one behind the other.
@@ -135,5 +135,5 @@ pub extern "C" fn vmx_encode_slice10(
         ac,
         a,
     );
-    plane_outs::coded_out(answer, dc_at, ac_at)
+    outs::plane::coded_out(answer, dc_at, ac_at)
 }

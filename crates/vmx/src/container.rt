@@ -9,15 +9,15 @@ ghost use mathlib.Core.Path.{_≡_};
 ghost use lib.ListN.{length};
 ghost use Rattle.ask.specs.Ask.{numberIn};
 ghost use Rattle.layout.specs.Geometry.{Geometry, layoutOf, interlaceCapable, imageRowOf, previewWidth, previewHeight};
-ghost use Rattle.header.specs.Header.{FrameRead};
+ghost use Rattle.parser.specs.head.Header.{FrameRead};
 ghost use Rattle.parser.specs.Frame.{parseOf, View, viewOf};
-ghost use Rattle.bothwalks.specs.Table.{allViews, tableLeft};
+ghost use Rattle.views.specs.both.Table.{allViews, tableLeft};
 ghost use Rattle.views.specs.Table.{tabledOf};
 ghost use Rattle.tables.specs.Quality.{qualityPreset};
 ghost use Rattle.builder.specs.Build.{Built, headerOf};
-ghost use Rattle.frameput.specs.Put.{streamOf};
+ghost use Rattle.builder.specs.streams.Put.{streamOf};
 ghost use Rattle.shown.specs.Shown.{timeOf};
-ghost use Rattle.frame_outs.specs.Outs.{left, isOn, flagOf, isImageRow, rowLeft};
+ghost use Rattle.outs.specs.frame.Outs.{left, isOn, flagOf, isImageRow, rowLeft};
 ghost use Rattle.vmx.specs.Frames.{stateOf, ShownAt, shownAt};
 
 // The geometry of a frame size: strides in samples, stream limits in bytes.
@@ -35,7 +35,7 @@ pub extern "C" fn vmx_layout(
     ensures { λ r. ⌜ (r ≡ numberIn (layoutOf width height)) × (now («aligned_height» .exit) ≡ left (layoutOf width height) (now («aligned_height» .entry)) (λ (g : Geometry). g .alignedHeight)) × (now (slices .exit) ≡ left (layoutOf width height) (now (slices .entry)) (λ (g : Geometry). g .slices)) × (now (luma .exit) ≡ left (layoutOf width height) (now (luma .entry)) (λ (g : Geometry). g .luma)) × (now (chroma .exit) ≡ left (layoutOf width height) (now (chroma .entry)) (λ (g : Geometry). g .chroma)) × (now («max_dc_len» .exit) ≡ left (layoutOf width height) (now («max_dc_len» .entry)) (λ (g : Geometry). g .maxDcLen)) × (now («max_ac_len» .exit) ≡ left (layoutOf width height) (now («max_ac_len» .entry)) (λ (g : Geometry). g .maxAcLen)) ⌝ }
 {
     let r = Layout::new(width, height);
-    frame_outs::layout_out(
+    outs::frame::layout_out(
         r,
         aligned_height,
         slices,
@@ -51,7 +51,7 @@ pub extern "C" fn vmx_layout(
 pub extern "C" fn vmx_interlace_capable(height: usize) -> u32
     ensures { λ r. ⌜ r ≡ flagOf (interlaceCapable height) ⌝ }
 {
-    frame_outs::flag(layout::interlace_capable(height))
+    outs::frame::flag(layout::interlace_capable(height))
 }
 
 // Whether a coded row is a row of the image (1) or padding (0), and which one; of padding nothing is said.
@@ -60,7 +60,7 @@ pub extern "C" fn vmx_image_row(height: usize, r: usize, interlaced: u32, row: &
     ensures { λ there. ⌜ (there ≡ flagOf (isImageRow (imageRowOf height r (isOn interlaced)))) × (now (row .exit) ≡ rowLeft (imageRowOf height r (isOn interlaced)) (now (row .entry))) ⌝ }
 {
     let a = layout::image_row(height, r, 0 < interlaced);
-    frame_outs::row_out(a, row)
+    outs::frame::row_out(a, row)
 }
 
 // The quality that is in force for a quality asked, and its preset.
@@ -68,7 +68,7 @@ pub extern "C" fn vmx_image_row(height: usize, r: usize, interlaced: u32, row: &
 pub extern "C" fn vmx_quality_preset(quality: u8, kept: &mut u8, preset: &mut usize)
     ensures { λ _. ⌜ (now (kept .exit) ≡ qualityPreset quality .quality) × (now (preset .exit) ≡ qualityPreset quality .index) ⌝ }
 {
-    frame_outs::quality_out(quality, kept, preset);
+    outs::frame::quality_out(quality, kept, preset);
 }
 
 // The width of the 1/8 preview.
@@ -102,7 +102,7 @@ pub extern "C" fn vmx_parse(
     ensures { λ r. ⌜ (r ≡ numberIn (parseOf width height (now (frame .entry)))) × (now (interlaced .exit) ≡ left (parseOf width height (now (frame .entry))) (now (interlaced .entry)) (λ (f : FrameRead). flagOf (f .interlaced))) × (now (quality .exit) ≡ left (parseOf width height (now (frame .entry))) (now (quality .entry)) (λ (f : FrameRead). f .quality)) × (now («dc_shift» .exit) ≡ left (parseOf width height (now (frame .entry))) (now («dc_shift» .entry)) (λ (f : FrameRead). f .dcShift)) × (now («header_len» .exit) ≡ left (parseOf width height (now (frame .entry))) (now («header_len» .entry)) (λ (f : FrameRead). f .headerLen)) × (now (ac .exit) ≡ left (parseOf width height (now (frame .entry))) (now (ac .entry)) (λ (f : FrameRead). flagOf (f .acThere))) ⌝ }
 {
     let r = parser::parse(width, height, frame);
-    frame_outs::frame_out(r, interlaced, quality, dc_shift, header_len, ac)
+    outs::frame::frame_out(r, interlaced, quality, dc_shift, header_len, ac)
 }
 
 // The same, and where all streams of the frame lie: two numbers each, offset and length, the DC streams of all slices in
@@ -122,7 +122,7 @@ pub extern "C" fn vmx_streams(
     ensures { λ r. ⌜ (r ≡ numberIn (tabledOf width height (now (frame .entry)) (length (now (views .entry))))) × (now (views .exit) ≡ tableLeft (tabledOf width height (now (frame .entry)) (length (now (views .entry)))) (now (views .entry)) (allViews width height (now (frame .entry)))) × (now (interlaced .exit) ≡ left (tabledOf width height (now (frame .entry)) (length (now (views .entry)))) (now (interlaced .entry)) (λ (f : FrameRead). flagOf (f .interlaced))) × (now (quality .exit) ≡ left (tabledOf width height (now (frame .entry)) (length (now (views .entry)))) (now (quality .entry)) (λ (f : FrameRead). f .quality)) × (now («dc_shift» .exit) ≡ left (tabledOf width height (now (frame .entry)) (length (now (views .entry)))) (now («dc_shift» .entry)) (λ (f : FrameRead). f .dcShift)) × (now («header_len» .exit) ≡ left (tabledOf width height (now (frame .entry)) (length (now (views .entry)))) (now («header_len» .entry)) (λ (f : FrameRead). f .headerLen)) × (now (ac .exit) ≡ left (tabledOf width height (now (frame .entry)) (length (now (views .entry)))) (now (ac .entry)) (λ (f : FrameRead). flagOf (f .acThere))) ⌝ }
 {
     let r = views::all_views(width, height, frame, views);
-    frame_outs::frame_out(r, interlaced, quality, dc_shift, header_len, ac)
+    outs::frame::frame_out(r, interlaced, quality, dc_shift, header_len, ac)
 }
 
 // Where the DC stream (ac 0) or the AC stream (any other) of a slice lies in the frame, and its length.
@@ -138,9 +138,9 @@ pub extern "C" fn vmx_stream(
 ) -> u32
     ensures { λ r. ⌜ (r ≡ numberIn (viewOf width height (now (frame .entry)) (isOn ac) slice)) × (now (offset .exit) ≡ left (viewOf width height (now (frame .entry)) (isOn ac) slice) 0 (λ (v : View). v .offset)) × (now (len .exit) ≡ left (viewOf width height (now (frame .entry)) (isOn ac) slice) 0 (λ (v : View). v .size)) ⌝ }
 {
-    let kind = frame_outs::kind_of(ac);
+    let kind = outs::frame::kind_of(ac);
     let r = parser::view_at(width, height, frame, kind, slice);
-    frame_outs::view_out(r, offset, len)
+    outs::frame::view_out(r, offset, len)
 }
 
 // Writes a frame's header at `at`, and hands out the state in which the first DC stream has its turn.
@@ -171,7 +171,7 @@ pub extern "C" fn vmx_frame_start(
         out,
         start,
     );
-    frame_outs::header_out(r, slices, max_dc_len, max_ac_len, ac_turn, next, at)
+    outs::frame::header_out(r, slices, max_dc_len, max_ac_len, ac_turn, next, at)
 }
 
 // Puts the DC stream (ac 0) or the AC stream (any other) of a slice behind what was written.
@@ -190,7 +190,7 @@ pub extern "C" fn vmx_frame_put(
 ) -> u32
     ensures { λ r. ⌜ (r ≡ numberIn (streamOf (stateOf slices «max_dc_len» «max_ac_len» (now («ac_turn» .entry)) (now (next .entry)) (now (at .entry))) (isOn ac) slice (now (stream .entry)) (now (out .entry)))) × (now (out .exit) ≡ left (streamOf (stateOf slices «max_dc_len» «max_ac_len» (now («ac_turn» .entry)) (now (next .entry)) (now (at .entry))) (isOn ac) slice (now (stream .entry)) (now (out .entry))) (now (out .entry)) (λ (b : Built). b .bytes)) × (now («ac_turn» .exit) ≡ left (streamOf (stateOf slices «max_dc_len» «max_ac_len» (now («ac_turn» .entry)) (now (next .entry)) (now (at .entry))) (isOn ac) slice (now (stream .entry)) (now (out .entry))) (now («ac_turn» .entry)) (λ (b : Built). flagOf (b .state .acTurn))) × (now (next .exit) ≡ left (streamOf (stateOf slices «max_dc_len» «max_ac_len» (now («ac_turn» .entry)) (now (next .entry)) (now (at .entry))) (isOn ac) slice (now (stream .entry)) (now (out .entry))) (now (next .entry)) (λ (b : Built). b .state .next)) × (now (at .exit) ≡ left (streamOf (stateOf slices «max_dc_len» «max_ac_len» (now («ac_turn» .entry)) (now (next .entry)) (now (at .entry))) (isOn ac) slice (now (stream .entry)) (now (out .entry))) (now (at .entry)) (λ (b : Built). b .state .at)) ⌝ }
 {
-    let kind = frame_outs::kind_of(ac);
+    let kind = outs::frame::kind_of(ac);
     let turn = 0 < *ac_turn;
     let first = *next;
     let start = *at;
@@ -202,8 +202,8 @@ pub extern "C" fn vmx_frame_put(
         next: first,
         at: start,
     };
-    let r = frameput::put_stream(b, kind, slice, stream, out);
-    frame_outs::stream_out(r, ac_turn, next, at)
+    let r = builder::streams::put_stream(b, kind, slice, stream, out);
+    outs::frame::stream_out(r, ac_turn, next, at)
 }
 
 // In which of two pictures of so many samples the slice's sixteen rows lie (1 the new one, 0 the held one), and where.
@@ -228,7 +228,7 @@ pub extern "C" fn vmx_shown_rows(
         return x;
     }
     let n = 16 * stride;
-    *from_new = frame_outs::from_new(verdict);
+    *from_new = outs::frame::from_new(verdict);
     *offset = slice * n;
     *len = n;
     0

@@ -4,7 +4,7 @@
 // call leaves it, and the bytes lent for the answer, as they were.
 ghost use mathlib.Core.Path.{_≡_};
 ghost use Rattle.calls.specs.Previews.{preview, blockReport};
-ghost use Rattle.plane_outs.specs.Planes.{previewedAs, reportedAs};
+ghost use Rattle.outs.specs.plane.Planes.{previewedAs, reportedAs};
 
 // One byte a block, two output rows, from the plane's DC stream.
 #[no_mangle]
@@ -21,7 +21,7 @@ pub extern "C" fn vmx_preview(
 {
     let d = *dc_at;
     let r = preview::preview(shift, place, stride, upper, lower, dc, d);
-    plane_outs::preview_out(r, dc_at)
+    outs::plane::preview_out(r, dc_at)
 }
 
 // One byte a block in coding order, 1 where no AC symbol is read for it, from the plane's AC stream.
@@ -35,6 +35,6 @@ pub extern "C" fn vmx_block_report(
     ensures { λ r. ⌜ reportedAs r (now («ac_at» .exit)) (now (report .exit)) ≡ blockReport stride (now (report .entry)) (now (ac .entry)) (now («ac_at» .entry)) ⌝ }
 {
     let a = *ac_at;
-    let r = report::block_report(stride, report, ac, a);
-    plane_outs::report_out(r, ac_at)
+    let r = preview::report::block_report(stride, report, ac, a);
+    outs::plane::report_out(r, ac_at)
 }

@@ -7,9 +7,9 @@ ghost use mathlib.Core.List.{[], _∷_};
 ghost use Rattle.calls.specs.Arguments.{eight, ten};
 ghost use Rattle.slice.specs.Calls.{decodePlane, decodeSlice};
 ghost use Rattle.encplane.specs.Coding.{settings, plane};
-ghost use Rattle.encslice.specs.SliceCoding.{rows};
-ghost use Rattle.answers.specs.Streams.{buffers, positions};
-ghost use Rattle.plane_outs.specs.Planes.{decodedAs};
+ghost use Rattle.encoder.specs.by_slice.SliceCoding.{rows};
+ghost use Rattle.questions.specs.answers.Streams.{buffers, positions};
+ghost use Rattle.outs.specs.plane.Planes.{decodedAs};
 
 // Reads a plane of 8-bit samples into its rows.
 #[no_mangle]
@@ -29,7 +29,7 @@ pub extern "C" fn vmx_decode_plane8(
     let d = *dc_at;
     let a = *ac_at;
     let r = decoder::decode_plane8(rows, stride, place, preset, shift, dc, d, ac, a);
-    plane_outs::read_out(r, dc_at, ac_at)
+    outs::plane::read_out(r, dc_at, ac_at)
 }
 
 // Reads a plane of 10-bit samples into its rows.
@@ -50,7 +50,7 @@ pub extern "C" fn vmx_decode_plane10(
     let d = *dc_at;
     let a = *ac_at;
     let r = decoder::decode_plane10(rows, stride, place, preset, shift, dc, d, ac, a);
-    plane_outs::read_out(r, dc_at, ac_at)
+    outs::plane::read_out(r, dc_at, ac_at)
 }
 
 // Reads the first `count` of four planes of 8-bit samples, places 0 to 3, one behind the other.
@@ -93,7 +93,7 @@ pub extern "C" fn vmx_decode_slice8(
         ac,
         a,
     );
-    plane_outs::read_out(read, dc_at, ac_at)
+    outs::plane::read_out(read, dc_at, ac_at)
 }
 
 // Reads the first `count` of four planes of 10-bit samples, places 0 to 3, one behind the other.
@@ -136,5 +136,5 @@ pub extern "C" fn vmx_decode_slice10(
         ac,
         a,
     );
-    plane_outs::read_out(answer, dc_at, ac_at)
+    outs::plane::read_out(answer, dc_at, ac_at)
 }

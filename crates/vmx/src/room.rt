@@ -4,15 +4,15 @@
 // call they are 0.
 ghost use mathlib.Core.Path.{_≡_};
 ghost use Rattle.calls.specs.Previews.{planeSize, sliceSize};
-ghost use Rattle.plane_outs.specs.Planes.{sizedAs};
+ghost use Rattle.outs.specs.plane.Planes.{sizedAs};
 
 // Of one plane.
 #[no_mangle]
 pub extern "C" fn vmx_plane_size(stride: usize, dc_len: &mut usize, ac_len: &mut usize) -> u32
     ensures { λ r. ⌜ sizedAs r (now («dc_len» .exit)) (now («ac_len» .exit)) ≡ planeSize stride ⌝ }
 {
-    let plane = sizes::plane_size(stride);
-    plane_outs::size_out(plane, dc_len, ac_len)
+    let plane = questions::sizes::plane_size(stride);
+    outs::plane::size_out(plane, dc_len, ac_len)
 }
 
 // Of the first `count` of four planes together.
@@ -28,6 +28,6 @@ pub extern "C" fn vmx_slice_size(
 ) -> u32
     ensures { λ r. ⌜ sizedAs r (now («dc_len» .exit)) (now («ac_len» .exit)) ≡ sliceSize count stride0 stride1 stride2 stride3 ⌝ }
 {
-    let slice = sizes::slice_size(count, stride0, stride1, stride2, stride3);
-    plane_outs::size_out(slice, dc_len, ac_len)
+    let slice = questions::sizes::slice_size(count, stride0, stride1, stride2, stride3);
+    outs::plane::size_out(slice, dc_len, ac_len)
 }

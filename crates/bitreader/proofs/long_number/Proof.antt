@@ -7,8 +7,8 @@ use mathlib.Core.List.{List}
 use lib.Count.{leadingZeros}
 use Rattle.bits.specs.Bits.{bitAt, num}
 use Rattle.bits.specs.Read.{readTail}
-use Rattle.bitword.specs.Word.{Holds, numberOf}
-use Rattle.bitword.proofs.Words.{holds-top}
+use Rattle.bitreader.specs.words.Word.{Holds, numberOf}
+use Rattle.bitreader.proofs.words.Words.{holds-top}
 use Rattle.bitreader.proofs.Leads.{lead-few, lead-many}
 use Rattle.bitreader.proofs.Spans.{tail-no, tail-yes}
 use borrow.Author.Needs.{needs}

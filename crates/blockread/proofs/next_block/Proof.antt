@@ -9,7 +9,7 @@ use mir.Val.{SFits}
 use Rattle.scalar.specs.Scalar.{addOf}
 use Rattle.scalar.proofs.Laws.{back, lane2}
 use Rattle.calls.specs.ReadPlane.{settle}
-use Rattle.dcread.specs.Steps.{stepOf}
+use Rattle.blockread.specs.dc.Steps.{stepOf}
 use Rattle.blockread.proofs.Split.{block-next}
 use Rattle.blockread.proofs.Good.{first-steps, first-places}
 use Rattle.blockread.proofs.next_block.Statement.{statement}

@@ -2,7 +2,7 @@
 use mathlib.Core.Path.{_≡_, refl, sym, _∙_}
 use native.Mathlib.Omega.{arith}
 use Rattle.calls.specs.Arguments.{ten}
-use Rattle.asks.specs.ByNumbers.{planeCall}
+use Rattle.questions.specs.of_call.ByNumbers.{planeCall}
 use Rattle.encoder.proofs.Laws.{number, refused-is, plane-ok, plane-is}
 use Rattle.encoder.proofs.encode_plane10.Statement.{statement}
 use Rattle.encoder.proofs.encode_plane10.Tie as tie

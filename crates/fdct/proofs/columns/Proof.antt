@@ -5,9 +5,9 @@ use Prim.Native.Nat.{_+_, _-_, _<_}
 use native.Mathlib.Omega.{arith}
 use lib.Dec.{lit≤}
 use mir.Facts.{toZ-ofZ}
-use Rattle.fcol.specs.Steps.{columnOf}
-use Rattle.fcol.specs.declared.Lanes.{Lanes}
-use Rattle.fcol.proofs.Step.{enter8}
+use Rattle.fdct.specs.column.Steps.{columnOf}
+use Rattle.fdct.specs.declared.column.Lanes.{Lanes}
+use Rattle.fdct.proofs.column.Step.{enter8}
 use Rattle.fdct.specs.Forward.{columnAt, columnsAt, columnsOf}
 use Rattle.fdct.proofs.Stripes.{Striped, striped-next, striped-done}
 use Rattle.fdct.proofs.Places.{column-place, first-bytes, first-in, place-fits, place-bytes, place-in, next-fits, less}

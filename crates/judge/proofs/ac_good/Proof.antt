@@ -5,8 +5,8 @@ use Prim.Native.Nat.{_-_, _≤_}
 use native.Mathlib.Omega.{arith}
 use lib.ListN.{take}
 use borrow.Author.Needs.{needs}
-use Rattle.acthrough.specs.Through.{endSays}
-use Rattle.acthrough.specs.declared.PlaneEnd.the-variants as plane
+use Rattle.acread.specs.through.Through.{endSays}
+use Rattle.acread.specs.declared.through.PlaneEnd.the-variants as plane
 use Rattle.judge.specs.Good.{acPlane}
 use Rattle.judge.proofs.Clean.{ac-spans, ac-clean}
 use Rattle.judge.proofs.Turns.{clean-good, Turns, turns-start, turns-over, turns-bad, turns-next, one-more, fewer-left, below-four, turn-fits, still-near, of-byte, columns-of, first-length, first-at}

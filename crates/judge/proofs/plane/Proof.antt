@@ -4,7 +4,7 @@ use Prim.Native.Nat.{_*_}
 use native.Mathlib.Omega.{arith}
 use Rattle.bits.specs.Bits.{bitAt}
 use Rattle.calls.specs.ReadPlane.{readBlocks}
-use Rattle.acthrough.specs.Through.{blockEnds, goodEnds}
+use Rattle.acread.specs.through.Through.{blockEnds, goodEnds}
 use Rattle.judge.proofs.Planes.{plane-good, both-streams, dc-bad}
 use Rattle.judge.proofs.plane.Statement.{statement}
 use Rattle.judge.proofs.plane.Tie as tie

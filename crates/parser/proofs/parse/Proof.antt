@@ -5,12 +5,12 @@ use mathlib.Core.List.{List}
 use Prim.Native.Nat.{ℕ}
 use Rattle.ask.specs.Ask.{Answer, accepted, firstNo}
 use Rattle.layout.specs.Geometry.{sliceCount, maxAcLen}
-use Rattle.streams.specs.Streams.{streams}
-use Rattle.header.specs.Header.{Legal, headerQuestions}
+use Rattle.parser.specs.streams.Streams.{streams}
+use Rattle.parser.specs.head.Header.{Legal, headerQuestions}
 use Rattle.parser.specs.Frame.{dcStreams}
-use Rattle.streams.specs.Views.{placeSays}
-use Rattle.streams.proofs.Laws.{place-told}
-use Rattle.header.proofs.Laws.{header-fits, begins-inside, none-is, legal}
+use Rattle.parser.specs.streams.Views.{placeSays}
+use Rattle.parser.proofs.streams.Laws.{place-told}
+use Rattle.parser.proofs.head.Laws.{header-fits, begins-inside, none-is, legal}
 use Rattle.parser.proofs.Laws.{frame-no, dc-no, dc-only, ac-no, ac-too, dc-walk, ac-walk}
 use Rattle.parser.proofs.parse.Statement.{statement}
 use Rattle.parser.proofs.parse.Tie as tie

@@ -5,8 +5,8 @@ use mir.Val.{Fits}
 use mir.Syntax.{w64}
 use Prim.Native.Nat.{_+_}
 use Rattle.ask.specs.Ask.{accepted}
-use Rattle.streams.specs.Streams.{oneStream}
-use Rattle.streams.proofs.Laws.{place-told, part-fits, part-before}
+use Rattle.parser.specs.streams.Streams.{oneStream}
+use Rattle.parser.proofs.streams.Laws.{place-told, part-fits, part-before}
 use Rattle.parser.proofs.Laws.{no-walk, nth-no, nth-part, slice-no, slice-yes}
 use Rattle.parser.proofs.part_at.Statement.{statement}
 use Rattle.parser.proofs.part_at.Tie as tie

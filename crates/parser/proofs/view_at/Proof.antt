@@ -7,12 +7,12 @@ use Prim.Native.Nat.{ℕ, _+_, _≤_, _<_}
 use lib.ListN.{length}
 use Rattle.ask.specs.Ask.{accepted, firstNo}
 use Rattle.layout.specs.Geometry.{sliceCount, maxAcLen}
-use Rattle.streams.specs.Streams.{streams}
-use Rattle.header.specs.Header.{Legal, headerQuestions, frameRead}
+use Rattle.parser.specs.streams.Streams.{streams}
+use Rattle.parser.specs.head.Header.{Legal, headerQuestions, frameRead}
 use Rattle.parser.specs.Frame.{dcStreams, parseOf, nthStream, kindView}
-use Rattle.streams.specs.Views.{placeSays}
-use Rattle.streams.proofs.Laws.{place-told, streams-inside}
-use Rattle.header.proofs.Laws.{header-fits, begins-inside, none-is, legal}
+use Rattle.parser.specs.streams.Views.{placeSays}
+use Rattle.parser.proofs.streams.Laws.{place-told, streams-inside}
+use Rattle.parser.proofs.head.Laws.{header-fits, begins-inside, none-is, legal}
 use Rattle.parser.proofs.Laws.{frame-no, dc-no, dc-only, ac-no, ac-too, dc-walk, ac-walk, dc-inside, nth-from, dc-nth, ac-nth, view-no, dc-wanted, ac-wanted, ac-missing}
 use Rattle.parser.proofs.view_at.Statement.{statement}
 use Rattle.parser.proofs.view_at.Tie as tie

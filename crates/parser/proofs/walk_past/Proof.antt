@@ -5,8 +5,8 @@ use mathlib.Core.Logic.{⊎-elim}
 use native.Mathlib.Omega.{arith}
 use Prim.Native.Nat.{ℕ, _≤_, _<_}
 use Rattle.ask.specs.Ask.{accepted}
-use Rattle.streams.specs.Streams.{streams}
-use Rattle.streams.proofs.Laws.{place-told, streams-inside, never}
+use Rattle.parser.specs.streams.Streams.{streams}
+use Rattle.parser.proofs.streams.Laws.{place-told, streams-inside, never}
 use Rattle.parser.proofs.Laws.{past, past-no}
 use Rattle.parser.proofs.walk_past.Statement.{statement}
 use Rattle.parser.proofs.walk_past.Tie as tie

@@ -7,7 +7,7 @@ use Rattle.bits.specs.Bits.{bitAt}
 use Rattle.calls.specs.ReadPlane.{readSteps}
 use Rattle.preview.specs.Answer.{endSays}
 use Rattle.preview.specs.declared.PlaneEnd.the-variants as plane
-use Rattle.previewrow.proofs.Rows.{good-end, bad-end}
+use Rattle.preview.proofs.row.Rows.{good-end, bad-end}
 use Rattle.preview.proofs.Ends.{clean-steps}
 use Rattle.preview.proofs.plane_good.Statement.{statement}
 use Rattle.preview.proofs.plane_good.Tie as tie

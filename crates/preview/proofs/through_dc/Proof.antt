@@ -2,13 +2,13 @@
 use Rattle.ask.specs.Ask.{refused, accepted}
 use Rattle.bits.specs.Bits.{bytesFor}
 use Rattle.bitreader.specs.declared.AcCursor.{AcCursor}
-use Rattle.dcread.specs.Steps.{inBytes}
+use Rattle.blockread.specs.dc.Steps.{inBytes}
 use mathlib.Core.Path.{_≡_, refl, sym, ap, _∙_}
 use mathlib.Core.Logic.{⊎-elim}
 use Prim.Native.Nat.{suc, _+_, _-_, _*_, _≤_}
 use native.Mathlib.Omega.{arith}
 use Rattle.acread.proofs.Rows.{row-first, row-next, row-last, rows-over}
-use Rattle.previewrow.proofs.Going.{Going, going-start, going-left, going-next, going-bad, going-over}
+use Rattle.preview.proofs.row.Going.{Going, going-start, going-left, going-next, going-bad, going-over}
 use Rattle.preview.proofs.through_dc.Statement.{statement}
 use Rattle.preview.proofs.through_dc.Tie as tie
 

@@ -18,7 +18,7 @@ use Rattle.quant.proofs.quant.Statement.{statement}
 use Rattle.quant.proofs.quant.Tie as tie
 use Rattle.quant.proofs.quant.Reads as reads
 use Rattle.quant.proofs.quant.Lts as lts
-use Rattle.quant_one.proofs.quant1.Reads as quant1-reads
+use Rattle.quant.proofs.one.quant1.Reads as quant1-reads
 
 abbrev Inv-loop : tie.InvT-loop
 Inv-loop preset k w q₀ i₀ q i = Filled 64 (λ j. roundedDivision (coefficient w j) (divisor preset j)) q i

@@ -5,7 +5,7 @@ use native.Mathlib.Omega.{arith}
 use Rattle.scalar.specs.Tab.{lane}
 use Rattle.scalar.proofs.Fill.{Filled, filled-done}
 use Rattle.shuffles.specs.Shuffles.{mm-shufflehi-epi16, highPlace}
-use Rattle.shuffle_places.proofs.Places.{high-lt}
+use Rattle.shuffles.proofs.places.Places.{high-lt}
 use Rattle.shuffles.proofs.Turns.{gather}
 use Rattle.shuffles.proofs.shufflehi.Statement.{statement}
 use Rattle.shuffles.proofs.shufflehi.Tie as tie

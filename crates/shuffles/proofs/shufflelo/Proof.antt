@@ -5,7 +5,7 @@ use native.Mathlib.Omega.{arith}
 use Rattle.scalar.specs.Tab.{lane}
 use Rattle.scalar.proofs.Fill.{Filled, filled-done}
 use Rattle.shuffles.specs.Shuffles.{mm-shufflelo-epi16, lowPlace}
-use Rattle.shuffle_places.proofs.Places.{low-lt}
+use Rattle.shuffles.proofs.places.Places.{low-lt}
 use Rattle.shuffles.proofs.Turns.{gather}
 use Rattle.shuffles.proofs.shufflelo.Statement.{statement}
 use Rattle.shuffles.proofs.shufflelo.Tie as tie

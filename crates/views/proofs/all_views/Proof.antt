@@ -9,12 +9,12 @@ use lib.ListN.{length}
 use borrow.Author.Tests.{leb-true}
 use Rattle.ask.specs.Ask.{accepted, refused, firstNo}
 use Rattle.layout.specs.Geometry.{sliceCount}
-use Rattle.header.specs.Header.{headerQuestions}
-use Rattle.header.proofs.Laws.{none-is, legal}
+use Rattle.parser.specs.head.Header.{headerQuestions}
+use Rattle.parser.proofs.head.Laws.{none-is, legal}
 use Rattle.parser.specs.Frame.{parseOf}
 use Rattle.parser.proofs.Laws.{frame-no}
 use Rattle.views.specs.Table.{tabledOf}
-use Rattle.bothwalks.specs.Views.{walkedSays}
+use Rattle.views.specs.both.Views.{walkedSays}
 use Rattle.views.proofs.Laws.{no-table, tabled}
 use Rattle.views.proofs.all_views.Statement.{statement}
 use Rattle.views.proofs.all_views.Tie as tie

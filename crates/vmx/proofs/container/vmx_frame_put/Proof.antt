@@ -3,9 +3,9 @@ use borrow.Author.Needs.{needs}
 use mathlib.Core.Path.{_≡_, ap}
 use mathlib.Core.Bool.{Bool}
 use Rattle.layout.specs.Views.{isAc}
-use Rattle.frameput.specs.Put.{streamOf}
+use Rattle.builder.specs.streams.Put.{streamOf}
 use Rattle.builder.specs.declared.Builder.{Builder}
-use Rattle.frame_outs.specs.Outs.{isOn}
+use Rattle.outs.specs.frame.Outs.{isOn}
 use Rattle.vmx.specs.Frames.{stateOf}
 use Rattle.vmx.proofs.container.vmx_frame_put.Statement.{statement}
 use Rattle.vmx.proofs.container.vmx_frame_put.Tie as tie

@@ -1,7 +1,7 @@
 -- `vmx::container::vmx_frame_start`.
 use borrow.Author.Needs.{needs}
 use Rattle.builder.specs.Build.{headerOf}
-use Rattle.frame_outs.specs.Outs.{isOn}
+use Rattle.outs.specs.frame.Outs.{isOn}
 use Rattle.vmx.proofs.container.vmx_frame_start.Statement.{statement}
 use Rattle.vmx.proofs.container.vmx_frame_start.Tie as tie
 

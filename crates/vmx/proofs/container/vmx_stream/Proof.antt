@@ -3,7 +3,7 @@ use borrow.Author.Needs.{needs}
 use mathlib.Core.Path.{_∙_, ap}
 use mathlib.Core.Bool.{Bool}
 use Rattle.parser.specs.Frame.{viewOf}
-use Rattle.frame_outs.specs.Outs.{isOn}
+use Rattle.outs.specs.frame.Outs.{isOn}
 use Rattle.vmx.proofs.container.vmx_stream.Statement.{statement}
 use Rattle.vmx.proofs.container.vmx_stream.Tie as tie
 

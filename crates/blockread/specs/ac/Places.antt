@@ -1,0 +1,24 @@
+-- The 64 places of a block, read into natural order. Document 01, 'Plane and slice'.
+use mathlib.Core.Path.{_≡_}
+use mathlib.Core.Bool.{Bool, true, false}
+use mathlib.Core.List.{List}
+use Prim.Native.Nat.{ℕ, _+_, _^_, _≤_, _<_}
+use lib.ListN.{length}
+use Rattle.bits.specs.Bits.{bitAt}
+use Rattle.bitreader.specs.Cursor.{At}
+use Rattle.quant.specs.Quantise.{scanOf}
+use Rattle.calls.specs.ReadPlane.{Places, badPlaces, places, readPlaces}
+use Rattle.blockread.specs.declared.ac.AcGot.{AcGot}
+
+-- no bad code
+abbrev pub goodPlaces : Places → Bool
+goodPlaces badPlaces = false
+goodPlaces (places cs q r) = true
+
+-- the places of a block at the bit p, behind r zeros: at most 64 codes of 112 bits were read
+pub record Placed (s : List ℕ) (p r : ℕ) (g : AcGot) : Type 0 where
+  pub answer : readPlaces 64 (bitAt s) p r ≡ places (scanOf (g .nat)) (g .c .pos) (g .pending)
+  pub holds : At s (g .c)
+  pub near : g .c .pos ≤ p + 7168
+  pub few : g .pending < 2 ^ 57
+  pub count : length (g .nat) ≡ 64

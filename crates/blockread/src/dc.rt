@@ -1,0 +1,27 @@
+// A block's DC by its code, and the preview's byte of it (slice.rs).
+ghost use mathlib.Core.Path.{_≡_};
+ghost use Prim.Native.Nat.{_<_};
+ghost use Rattle.scalar.specs.Scalar.{addOf};
+ghost use Rattle.calls.specs.ReadPlane.{settle};
+ghost use Rattle.blockread.specs.dc.Steps.{stepOf, byteOf};
+
+// A block's DC: a zero step keeps what stands at place 0, any other, shifted back, replaces it; the prediction is added, wrapping.
+pub fn settled(run: u64, num: u64, shift: u32, here: i16, prior: i16) -> i16
+    requires { ⌜ shift < 16 ⌝ }
+    ensures { λ r. ⌜ r ≡ addOf (settle shift (stepOf run num) here) prior ⌝ }
+{
+    if run == 0 {
+        let step = scalar::sll16(bitreader::from_code(num), shift);
+        scalar::add1(step, prior)
+    } else {
+        scalar::add1(here, prior)
+    }
+}
+
+// The byte of a DC: an eighth of it, rounded, plus the level; sums of 16 bits that wrap, cut to 8 bits and not clamped.
+pub fn preview_byte(d: i16, level: i16) -> u8
+    ensures { λ r. ⌜ r ≡ byteOf level d ⌝ }
+{
+    let v = scalar::add1(scalar::sra16(scalar::add1(d, 4), 3), level);
+    (scalar::bits16(v) % 256) as u8
+}

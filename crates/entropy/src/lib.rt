@@ -1,0 +1,3 @@
+// The entropy coder of slice.rs: a block, and the streams of a plane.
+pub mod block;
+pub mod plane;

@@ -1,7 +1,0 @@
--- What the code's type says, in the definitions' terms.
-use Rattle.header.specs.Header.{FrameRead}
-use Rattle.header.specs.declared.Header.{Header}
-
-abbrev pub headerSays : Header → FrameRead
-headerSays h =
-    record { interlaced = h .interlaced; quality = h .quality; dcShift = h .«dc_shift»; headerLen = h .«header_len»; acThere = h .ac }

@@ -1,0 +1,70 @@
+-- `irow::pairs::spread` fills the places in order, row by row.
+use borrow.Author.Needs.{needs, sfits-of}
+use mathlib.Core.Path.{_≡_, refl, _∙_}
+use mathlib.Core.List.{List}
+use Prim.Native.Nat.{ℕ, _+_, _-_, _*_, _/_, _%_, _<_}
+use native.Mathlib.Omega.{arith}
+use lib.IntN.{ℤ}
+use mir.Facts.{toZ-ofZ}
+use Rattle.scalar.specs.Tab.{lane}
+use Rattle.scalar.proofs.Fill.{Filled}
+use Rattle.scalar.proofs.InRows.{InRow, row-of, col-of, row-begins, row-next, row-ends, rows-done}
+use Rattle.irow.specs.pairs.Pairs.{spreadPlace, spreadOf}
+use Rattle.irow.proofs.pairs.spread.Statement.{statement}
+use Rattle.irow.proofs.pairs.spread.Tie as tie
+
+abbrev at : List ℤ → ℕ → ℕ → ℤ
+at a from i = lane a (8 * (i / 8) + spreadPlace from (i % 8))
+
+place : (a : List ℤ) (from r k : ℕ) → k < 8 → lane a (8 * r + spreadPlace from k) ≡ at a from (8 * r + k)
+place a from r k h = rw (row-of r k h, col-of r k h) refl
+
+abbrev Inv-loop2 : tie.InvT-loop2
+Inv-loop2 a from x₀ r k₀ x k = InRow (at a from) x r k
+
+abbrev μ-loop2 : tie.MeasureT-loop2
+μ-loop2 a from x₀ r k₀ x k = 8 - k
+
+abbrev Inv-loop : tie.InvT-loop
+Inv-loop a from x₀ r₀ x r = Filled 64 (at a from) x (8 * r)
+
+abbrev μ-loop : tie.MeasureT-loop
+μ-loop a from x₀ r₀ x r = 8 - r
+
+loop2-holds : tie.Need-loop2-holds Inv-loop2 μ-loop2 Inv-loop μ-loop
+loop2-holds c =
+    let l = c .before in
+    row-begins (at (l .before .args .a .now) (l .before .args .from)) (l .loop .x) (l .loop .r) (l .loop .inv)
+
+loop2-again : tie.Need-loop2-again Inv-loop2 μ-loop2 Inv-loop μ-loop
+loop2-again c =
+    let i = c .before in
+    let j = i .before in
+    let o = j .before in
+    let l = o .before in
+    let r = l .loop .r in
+    let k = j .loop2 .k in
+    let h = i .loop2-test .taken in
+    let a = l .before .args .a .now in
+    let from = l .before .args .from in
+    row-next (at a from) (j .loop2 .x) r k (o .loop-test .taken) h (j .loop2 .inv) (toZ-ofZ (sfits-of (c .x .given)) ∙ place a from r k h)
+
+loop-again : tie.Need-loop-again Inv-loop2 μ-loop2 Inv-loop μ-loop
+loop-again c =
+    let j = c .before in
+    let l = j .before .before in
+    row-ends (at (l .before .args .a .now) (l .before .args .from)) (j .loop2 .x) (l .loop .r) (j .loop2 .k) (c .loop2-test .left) (j .loop2 .inv)
+
+returns : tie.Need-returns Inv-loop2 μ-loop2 Inv-loop μ-loop
+unfolding spreadOf
+returns c =
+    let l = c .before in
+    rows-done (at (l .before .args .a .now) (l .before .args .from)) (l .loop .x) (l .loop .r) (c .loop-test .left) (l .loop .inv)
+
+pub spread-spec : {M : Type 1} → statement M
+spread-spec =
+    tie.close
+    (tie.spec Inv-loop2 μ-loop2 Inv-loop μ-loop (λ c. (omega arith, (refl, refl))) loop2-holds
+    (λ c. omega arith) (λ c. omega arith) (λ c. omega arith) (λ c. omega arith) (λ c. omega arith) (λ c. omega arith) (λ c. omega arith) (λ c. omega arith)
+    (λ c. omega arith) (λ c. omega arith) (λ c. omega arith) (λ c. omega arith) (λ c. omega arith) loop2-again (λ c. omega arith) (λ c. omega arith)
+    loop-again returns)

@@ -1,0 +1,2 @@
+pub mod plane
+pub mod frame

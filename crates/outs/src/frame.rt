@@ -1,0 +1,177 @@
+// Answers of the calls on frames, handed out: the number is returned, the rest of the answer goes into the places that the
+// caller lends for it. A refusal leaves them as they were; a refused part has offset 0 and length 0.
+use builder::HeaderAnswer;
+use builder::streams::StreamAnswer;
+use layout::Kind;
+use layout::LayoutAnswer;
+use layout::RowAnswer;
+use parser::FrameAnswer;
+use parser::ViewAnswer;
+ghost use mathlib.Core.Path.{_≡_};
+ghost use mathlib.Core.List.{List};
+ghost use Prim.Native.Nat.{ℕ};
+ghost use Rattle.ask.specs.Ask.{Answer, numberIn};
+ghost use Rattle.layout.specs.Geometry.{Geometry};
+ghost use Rattle.parser.specs.head.Header.{FrameRead};
+ghost use Rattle.parser.specs.Frame.{View};
+ghost use Rattle.layout.specs.Views.{layoutSays, rowSays, isAc};
+ghost use Rattle.parser.specs.Views.{frameSays, viewSays};
+ghost use Rattle.tables.specs.Quality.{qualityPreset};
+ghost use Rattle.builder.specs.Build.{Built};
+ghost use Rattle.builder.specs.Views.{HeaderCall};
+ghost use Rattle.builder.specs.streams.Views.{StreamCall};
+ghost use Rattle.builder.specs.declared.Builder.{Builder};
+ghost use Rattle.shown.specs.Shown.{wasAccepted};
+ghost use Rattle.outs.specs.frame.Outs.{left, isOn, flagOf, isImageRow, rowLeft};
+
+// A truth value as a number.
+pub fn flag(b: bool) -> u32
+    ensures { λ r. ⌜ r ≡ flagOf b ⌝ }
+{
+    if b { 1 } else { 0 }
+}
+
+// Which stream is meant: DC by 0, AC by any other number.
+pub fn kind_of(ac: u32) -> Kind
+    ensures { λ r. ⌜ isAc r ≡ isOn ac ⌝ }
+{
+    if 0 < ac { Kind::Ac } else { Kind::Dc }
+}
+
+// Whether rows come out of the new picture, by the slice's number.
+pub fn from_new(verdict: u32) -> u32
+    ensures { λ r. ⌜ r ≡ flagOf (wasAccepted verdict) ⌝ }
+{
+    flag(verdict == 0)
+}
+
+// Of a size's geometry.
+pub fn layout_out(
+    answer: LayoutAnswer,
+    aligned_height: &mut usize,
+    slices: &mut usize,
+    luma: &mut usize,
+    chroma: &mut usize,
+    max_dc_len: &mut usize,
+    max_ac_len: &mut usize,
+) -> u32
+    ensures { λ r. ⌜ ((a : Answer Geometry) → layoutSays answer ≡ a → (r ≡ numberIn a) × (now («aligned_height» .exit) ≡ left a (now («aligned_height» .entry)) (λ (g : Geometry). g .alignedHeight)) × (now (slices .exit) ≡ left a (now (slices .entry)) (λ (g : Geometry). g .slices)) × (now (luma .exit) ≡ left a (now (luma .entry)) (λ (g : Geometry). g .luma)) × (now (chroma .exit) ≡ left a (now (chroma .entry)) (λ (g : Geometry). g .chroma)) × (now («max_dc_len» .exit) ≡ left a (now («max_dc_len» .entry)) (λ (g : Geometry). g .maxDcLen)) × (now («max_ac_len» .exit) ≡ left a (now («max_ac_len» .entry)) (λ (g : Geometry). g .maxAcLen))) ⌝ }
+{
+    match answer {
+        LayoutAnswer::Refused(x) => x,
+        LayoutAnswer::Fits(l) => {
+            *aligned_height = l.aligned_height;
+            *slices = l.slices;
+            *luma = l.luma;
+            *chroma = l.chroma;
+            *max_dc_len = l.max_dc_len;
+            *max_ac_len = l.max_ac_len;
+            0
+        }
+    }
+}
+
+// Of a coded row: whether it is a row of the image, and which one.
+pub fn row_out(answer: RowAnswer, row: &mut usize) -> u32
+    ensures { λ there. ⌜ (there ≡ flagOf (isImageRow (rowSays answer))) × (now (row .exit) ≡ rowLeft (rowSays answer) (now (row .entry))) ⌝ }
+{
+    match answer {
+        RowAnswer::Padding => 0,
+        RowAnswer::Row(i) => {
+            *row = i;
+            1
+        }
+    }
+}
+
+// Of a quality that is asked: the one in force, and its preset.
+pub fn quality_out(quality: u8, kept: &mut u8, preset: &mut usize)
+    ensures { λ _. ⌜ (now (kept .exit) ≡ qualityPreset quality .quality) × (now (preset .exit) ≡ qualityPreset quality .index) ⌝ }
+{
+    let p = tables::quality::quality_preset(quality);
+    *kept = p.quality;
+    *preset = p.index;
+}
+
+// Of a frame's header.
+pub fn frame_out(
+    answer: FrameAnswer,
+    interlaced: &mut u32,
+    quality: &mut u32,
+    dc_shift: &mut u32,
+    header_len: &mut usize,
+    ac: &mut u32,
+) -> u32
+    ensures { λ r. ⌜ ((a : Answer FrameRead) → frameSays answer ≡ a → (r ≡ numberIn a) × (now (interlaced .exit) ≡ left a (now (interlaced .entry)) (λ (f : FrameRead). flagOf (f .interlaced))) × (now (quality .exit) ≡ left a (now (quality .entry)) (λ (f : FrameRead). f .quality)) × (now («dc_shift» .exit) ≡ left a (now («dc_shift» .entry)) (λ (f : FrameRead). f .dcShift)) × (now («header_len» .exit) ≡ left a (now («header_len» .entry)) (λ (f : FrameRead). f .headerLen)) × (now (ac .exit) ≡ left a (now (ac .entry)) (λ (f : FrameRead). flagOf (f .acThere)))) ⌝ }
+{
+    match answer {
+        FrameAnswer::Refused(x) => x,
+        FrameAnswer::Frame(h) => {
+            *interlaced = flag(h.interlaced);
+            *quality = h.quality as u32;
+            *dc_shift = h.dc_shift as u32;
+            *header_len = h.header_len;
+            *ac = flag(h.ac);
+            0
+        }
+    }
+}
+
+// Of a slice's stream: where it lies in the frame.
+pub fn view_out(answer: ViewAnswer, offset: &mut usize, len: &mut usize) -> u32
+    ensures { λ r. ⌜ ((a : Answer View) → viewSays answer ≡ a → (r ≡ numberIn a) × (now (offset .exit) ≡ left a 0 (λ (v : View). v .offset)) × (now (len .exit) ≡ left a 0 (λ (v : View). v .size))) ⌝ }
+{
+    match answer {
+        ViewAnswer::Refused(x) => {
+            *offset = 0;
+            *len = 0;
+            x
+        }
+        ViewAnswer::Part(p, n) => {
+            *offset = p;
+            *len = n;
+            0
+        }
+    }
+}
+
+// Of a header that was written, or not: the builder's state.
+pub fn header_out(
+    answer: HeaderAnswer,
+    slices: &mut usize,
+    max_dc_len: &mut usize,
+    max_ac_len: &mut usize,
+    ac_turn: &mut u32,
+    next: &mut usize,
+    at: &mut usize,
+) -> u32
+    ensures { λ r. ⌜ ((out out' : List ℕ) (a : Answer Built) → HeaderCall answer out out' a → (r ≡ numberIn a) × (out' ≡ left a out (λ (b : Built). b .bytes)) × (now (slices .exit) ≡ left a (now (slices .entry)) (λ (b : Built). b .state .slices)) × (now («max_dc_len» .exit) ≡ left a (now («max_dc_len» .entry)) (λ (b : Built). b .state .maxDcLen)) × (now («max_ac_len» .exit) ≡ left a (now («max_ac_len» .entry)) (λ (b : Built). b .state .maxAcLen)) × (now («ac_turn» .exit) ≡ left a (now («ac_turn» .entry)) (λ (b : Built). flagOf (b .state .acTurn))) × (now (next .exit) ≡ left a (now (next .entry)) (λ (b : Built). b .state .next)) × (now (at .exit) ≡ left a (now (at .entry)) (λ (b : Built). b .state .at))) ⌝ }
+{
+    match answer {
+        HeaderAnswer::Refused(x) => x,
+        HeaderAnswer::Started(b) => {
+            *slices = b.slices;
+            *max_dc_len = b.max_dc_len;
+            *max_ac_len = b.max_ac_len;
+            *ac_turn = flag(b.ac_turn);
+            *next = b.next;
+            *at = b.at;
+            0
+        }
+    }
+}
+
+// Of a stream that was put, or not: what moves in the builder's state.
+pub fn stream_out(answer: StreamAnswer, ac_turn: &mut u32, next: &mut usize, at: &mut usize) -> u32
+    ensures { λ r. ⌜ ((was : Builder) (out out' : List ℕ) (a : Answer Built) → StreamCall was answer out out' a → (r ≡ numberIn a) × (out' ≡ left a out (λ (b : Built). b .bytes)) × (now («ac_turn» .exit) ≡ left a (now («ac_turn» .entry)) (λ (b : Built). flagOf (b .state .acTurn))) × (now (next .exit) ≡ left a (now (next .entry)) (λ (b : Built). b .state .next)) × (now (at .exit) ≡ left a (now (at .entry)) (λ (b : Built). b .state .at))) ⌝ }
+{
+    match answer {
+        StreamAnswer::Refused(x, _) => x,
+        StreamAnswer::Next(s) => {
+            *ac_turn = flag(s.ac_turn);
+            *next = s.next;
+            *at = s.at;
+            0
+        }
+    }
+}

@@ -1,0 +1,3 @@
+// Answers handed out into the places that a caller lends.
+pub mod frame;
+pub mod plane;

@@ -1,0 +1,94 @@
+// The header of a frame (layout.rs).
+//
+// It is a format byte, the quality and the slice count modulo 256; a format byte of 3 is followed by the DC shift and a
+// second format byte.
+ghost use mathlib.Core.Path.{_≡_};
+ghost use Prim.Native.Nat.{_≤_};
+ghost use lib.ListN.{length};
+ghost use Rattle.ask.specs.Ask.{firstNo};
+ghost use Rattle.parser.specs.head.Header.{formatAt, shiftIn, isInterlaced, countOk, headerQuestions, frameRead};
+ghost use Rattle.parser.specs.head.Views.{headerSays};
+
+// What is read of a frame's header, and whether AC streams follow.
+pub struct Header {
+    pub interlaced: bool,
+    pub quality: u8,
+    pub dc_shift: u8,
+    pub header_len: usize,
+    pub ac: bool,
+}
+
+// Where the format byte that says progressive or interlaced stands.
+pub fn format_at(f: &[u8]) -> usize
+    requires { ⌜ 5 ≤ length (now f) ⌝ }
+    ensures { λ r. ⌜ r ≡ formatAt (now (f .entry)) ⌝ }
+{
+    if f[0] == 3 { 2 } else { 0 }
+}
+
+fn is_interlaced(f: &[u8], height: usize) -> bool
+    requires { ⌜ 5 ≤ length (now f) ⌝ }
+    ensures { λ r. ⌜ r ≡ isInterlaced height (now (f .entry)) ⌝ }
+{
+    if f[format_at(f)] == 1 {
+        false
+    } else {
+        layout::interlace_capable(height)
+    }
+}
+
+// Whether the slice count in the header is the layout's, modulo 256.
+fn count_ok(height: usize, f: &[u8]) -> bool
+    requires { ⌜ (5 ≤ length (now f)) × (height ≤ 4320) ⌝ }
+    ensures { λ r. ⌜ r ≡ countOk height (now (f .entry)) ⌝ }
+{
+    crate::streams::wide(f[format_at(f) + 2]) == layout::slice_count(height) % 256
+}
+
+// The DC shift that the header names, 0 where it names none.
+fn shift_in(f: &[u8]) -> u8
+    requires { ⌜ 5 ≤ length (now f) ⌝ }
+    ensures { λ r. ⌜ r ≡ shiftIn (now (f .entry)) ⌝ }
+{
+    if f[0] == 3 { f[1] } else { 0 }
+}
+
+// The first "no" among the questions about the header, 0 where there is none.
+pub fn header_number(width: usize, height: usize, f: &[u8]) -> u32
+    ensures { λ r. ⌜ r ≡ firstNo (headerQuestions width height (now (f .entry))) ⌝ }
+{
+    if layout::size_ok(width, height) {
+        if f.len() < 5 {
+            return 10;
+        }
+        if f[0] < 1 {
+            return 11;
+        }
+        if 3 < f[0] {
+            return 11;
+        }
+        if 15 < shift_in(f) {
+            return 2;
+        }
+        if count_ok(height, f) {
+            return 0;
+        }
+        return 12;
+    }
+    9
+}
+
+// What the header says.
+pub fn header_of(height: usize, f: &[u8], ac: bool) -> Header
+    requires { ⌜ 5 ≤ length (now f) ⌝ }
+    ensures { λ r. ⌜ headerSays r ≡ frameRead height (now (f .entry)) ac ⌝ }
+{
+    let at = format_at(f);
+    Header {
+        interlaced: is_interlaced(f, height),
+        quality: f[at + 1],
+        dc_shift: shift_in(f),
+        header_len: at + 3,
+        ac,
+    }
+}

@@ -1,0 +1,73 @@
+// The block report: which blocks of a plane no AC symbol is read for, from the plane's AC stream alone.
+// The stream is judged before a byte is stored: one without six zero bytes in a row holds no bad code, only another is read through.
+ghost use mathlib.Core.Path.{_≡_};
+ghost use mathlib.Core.Bool.{true};
+ghost use mathlib.Core.List.{List};
+ghost use Prim.Native.Nat.{ℕ, _*_, _≤_};
+ghost use lib.ListN.{length};
+ghost use Rattle.ask.specs.Ask.{accepted, firstNo};
+ghost use Rattle.bits.specs.Bits.{bitAt};
+ghost use Rattle.bits.specs.Lay.{lay};
+ghost use Rattle.calls.specs.ReadPlane.{readBlocks};
+ghost use Rattle.calls.specs.Questions.{reportQuestions};
+ghost use Rattle.calls.specs.Previews.{blockReport};
+ghost use Rattle.acread.specs.through.Through.{blockEnds, goodEnds, reportsOf, acEnd};
+ghost use Rattle.preview.specs.report.Report.{reportSays};
+use acread::BlockEnd;
+use acread::through::PlaneEnd;
+
+// Stores one byte a block, for n blocks of a stream that was judged good; the byte behind them.
+fn store_report(ac: &[u8], at: usize, n: usize, report: &mut [u8]) -> usize
+    requires { ⌜ (at ≤ 16777215) × (n ≤ 1920) × (n ≤ length (now report)) × (goodEnds (blockEnds (readBlocks n (bitAt (now ac)) (8 * at) 0)) ≡ true) ⌝ }
+    ensures { λ r. ⌜ (accepted r ≡ acEnd (readBlocks n (bitAt (now (ac .entry))) (8 * at) 0)) × (now (report .exit) ≡ lay (now (report .entry)) 0 (reportsOf (readBlocks n (bitAt (now (ac .entry))) (8 * at) 0))) ⌝ }
+{
+    let mut c = bitreader::cursor(ac, 8 * at);
+    let mut pending: u64 = 0;
+    let mut i = 0;
+    while i < n {
+        report[i] = acread::flat(pending);
+        match acread::skip_block(ac, c, pending) {
+            BlockEnd::At(d, m) => {
+                c = d;
+                pending = m;
+            }
+            BlockEnd::Bad => return 0,
+        }
+        i += 1;
+    }
+    bitreader::end_byte(c)
+}
+
+// The first "no" among the questions, 0 where there is none; the report has room for so many bytes, the stream so many.
+fn report_number(stride: usize, room: usize, bytes: usize, at: usize) -> u32
+    ensures { λ r. ⌜ ((report : List ℕ) → length report ≡ room → r ≡ firstNo (reportQuestions stride report bytes at)) ⌝ }
+{
+    if questions::one::stride_ok(stride) {
+        if room < stride / 4 {
+            return 5;
+        }
+        if 16777215 < at {
+            return 7;
+        }
+        if 430080 < bytes {
+            return 7;
+        }
+        return 0;
+    }
+    4
+}
+
+// One byte a block in coding order: 1 where no AC symbol is read for it; and the byte where the plane's AC stream ends.
+pub fn block_report(stride: usize, report: &mut [u8], ac: &[u8], at: usize) -> PlaneEnd
+    ensures { λ r. ⌜ reportSays at r (now (report .exit)) ≡ blockReport stride (now (report .entry)) (now (ac .entry)) at ⌝ }
+{
+    let x = report_number(stride, report.len(), ac.len(), at);
+    if 0 < x {
+        return PlaneEnd::Refused(x);
+    }
+    let columns = stride / 8;
+    if acread::through::plane_good(ac, at, columns) {
+        return PlaneEnd::At(store_report(ac, at, 2 * columns, report));
+    }
+    PlaneEnd::Refused(8)
+}

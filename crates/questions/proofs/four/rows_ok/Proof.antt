@@ -1,0 +1,29 @@
+-- `questions::four::rows_ok`.
+use borrow.Author.Needs.{needs}
+use mathlib.Core.Path.{_∙_}
+use mathlib.Core.List.{[], _∷_}
+use lib.ListN.{take}
+use Rattle.questions.specs.four.Firsts.{allOf}
+use Rattle.questions.proofs.four.rows_ok.Statement.{statement}
+use Rattle.questions.proofs.four.rows_ok.Tie as tie
+
+returns : tie.Need-returns
+returns c =
+    let b3 = c .before in
+    let b2 = b3 .before in
+    let b1 = b2 .before in
+    let b0 = b1 .before in
+    let n = b0 .before .args .count in
+    c .all-ok .ensures
+    ∙ (λ i. allOf (take (b0 .before .args .count) (b0 .rows-ok .ensures i ∷ b1 .rows-ok2 .ensures i ∷ b2 .rows-ok3 .ensures i ∷ b3 .rows-ok4 .ensures i ∷ [])))
+
+pub rows-ok-spec : {M : Type 1} → statement M
+rows-ok-spec =
+    tie.close
+    (tie.spec
+    (λ c κs. search needs)
+    (λ c κs. search needs)
+    (λ c κs. search needs)
+    (λ c κs. search needs)
+    (λ c κs. search needs)
+    returns)

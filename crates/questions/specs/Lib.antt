@@ -1,0 +1,4 @@
+pub mod four
+pub mod order
+pub mod of_call
+pub mod answers

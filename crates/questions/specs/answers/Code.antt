@@ -1,0 +1,12 @@
+-- The answers of the coding calls. Document 01, 'The questions before any work'.
+use mathlib.Core.List.{List}
+use Prim.Native.Nat.{ℕ}
+use Rattle.slice.specs.Calls.{Coded}
+use Rattle.questions.specs.answers.Streams.{buffers, positions}
+use Rattle.questions.specs.declared.answers.CodeAnswer.{CodeAnswer}
+use Rattle.questions.specs.declared.answers.CodeAnswer.the-variants.{Refused, Accepted}
+
+-- document 01's number and positions of an answer, with both buffers as they are now
+abbrev pub answered : CodeAnswer → List ℕ → List ℕ → Coded
+answered (Refused n d a) dcs acs = record { number = n; at = positions d a; buffers = buffers dcs acs }
+answered (Accepted d a) dcs acs = record { number = 0; at = positions d a; buffers = buffers dcs acs }

@@ -1,0 +1,12 @@
+-- The answers of the reading calls. Document 01, 'Plane and slice' and 'The questions before any work'.
+use mathlib.Core.List.{List}
+use Prim.Native.Nat.{ℕ}
+use Rattle.slice.specs.Calls.{Decoded}
+use Rattle.questions.specs.answers.Streams.{positions}
+use Rattle.questions.specs.declared.answers.ReadAnswer.{ReadAnswer}
+use Rattle.questions.specs.declared.answers.ReadAnswer.the-variants.{Refused, Accepted}
+
+-- document 01's number and positions of an answer, with the rows of every lent plane as they are now
+abbrev pub answered : ReadAnswer → List (List ℕ) → Decoded
+answered (Refused n d a) rows = record { number = n; at = positions d a; rows = rows }
+answered (Accepted d a) rows = record { number = 0; at = positions d a; rows = rows }
