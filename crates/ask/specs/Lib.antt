@@ -1,1 +1,3 @@
 pub mod Ask
+pub mod Numbers
+pub mod Limits
