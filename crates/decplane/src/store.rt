@@ -1,10 +1,10 @@
 // One loop for both depths over a plane whose streams were judged good (decode_plane of slice.rs): blocks left to right, upper eight rows
 // first; each block is read from both streams and painted at its corner. The reader of a block has one caller, so that the compiler makes
 // it part of the loop and a block stays where it was read.
-ghost use Rattle.encplane.specs.Coding.{settings, plane};
 ghost use Rattle.write_block.specs.Depths.{depthOf, rowsOf};
 ghost use Rattle.decplane.specs.store.Storing.{PlaneGood, PlaneStored};
 use entropy::plane::Ends;
+ghost use Rattle.calls.specs.Arguments.{settings, plane};
 
 // Stores a plane, read from the DC stream from d on and the AC stream from a on.
 pub fn plane(

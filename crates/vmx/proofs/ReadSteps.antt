@@ -3,9 +3,8 @@ use mathlib.Core.List.{List, [], _∷_}
 use Prim.Native.Nat.{ℕ}
 use contract.Lifetimes.{Lfts}
 use denote.Ref.{RefT, now}
-use Rattle.calls.specs.Arguments.{eight, ten, Call, onePlane, PerStream, Buffers}
+use Rattle.calls.specs.Arguments.{eight, ten, Call, onePlane, PerStream, Buffers, settings, plane}
 use Rattle.slice.specs.Calls.{Decoded}
-use Rattle.encplane.specs.Coding.{settings, plane}
 use Rattle.outs.specs.plane.Planes.{decodedAs}
 use Rattle.vmx.proofs.Steps.{Streams, bytesIn, placesIn, FourRows, sliceOf}
 use Rattle.vmx.proofs.reading.vmx_decode_plane8.Reads as decode-plane8

@@ -3,11 +3,8 @@
 // A call answers document 01's number, 0 where it is accepted. The positions are read from the places lent for them and left
 // there: behind what was written, or as they were given. A refused call leaves both buffers as they were.
 ghost use mathlib.Core.Path.{_≡_};
-ghost use Rattle.calls.specs.Arguments.{eight, ten};
+ghost use Rattle.calls.specs.Arguments.{eight, ten, settings, plane, rows, buffers, positions};
 ghost use Rattle.slice.specs.Calls.{encodePlane, encodeSlice};
-ghost use Rattle.encplane.specs.Coding.{settings, plane};
-ghost use Rattle.encoder.specs.by_slice.SliceCoding.{rows};
-ghost use Rattle.questions.specs.answers.Streams.{buffers, positions};
 ghost use Rattle.outs.specs.plane.Planes.{codedAs};
 
 // Codes an 8-bit plane.

@@ -4,11 +4,8 @@
 // there: behind what was read, or as they were given. A refused call leaves every sample as it was.
 ghost use mathlib.Core.Path.{_≡_};
 ghost use mathlib.Core.List.{[], _∷_};
-ghost use Rattle.calls.specs.Arguments.{eight, ten};
+ghost use Rattle.calls.specs.Arguments.{eight, ten, settings, plane, rows, buffers, positions};
 ghost use Rattle.slice.specs.Calls.{decodePlane, decodeSlice};
-ghost use Rattle.encplane.specs.Coding.{settings, plane};
-ghost use Rattle.encoder.specs.by_slice.SliceCoding.{rows};
-ghost use Rattle.questions.specs.answers.Streams.{buffers, positions};
 ghost use Rattle.outs.specs.plane.Planes.{decodedAs};
 
 // Reads a plane of 8-bit samples into its rows.

@@ -6,10 +6,9 @@ use native.Mathlib.Omega.{arith}
 use lib.IntN.{ℤ}
 use lib.ListN.{length}
 use borrow.Author.Needs.{needs}
-use Rattle.calls.specs.Arguments.{ten}
+use Rattle.calls.specs.Arguments.{ten, plane}
 use Rattle.slice.specs.Plane.{blockCoefficients}
 use Rattle.bitwriter.proofs.Writer.{wrote-length}
-use Rattle.encplane.specs.Coding.{plane}
 use Rattle.planes.proofs.Laws.{corner-fits, part-is, part-long}
 use Rattle.encplane.proofs.Laws.{block-16}
 use Rattle.encplane.proofs.Loops.{Coding, Row, begun, room, coded, next-row, last-room, done}

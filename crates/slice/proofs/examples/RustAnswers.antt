@@ -28,8 +28,9 @@ use Rattle.calls.specs.Arguments.{eight, ten, Settings, Plane, PerStream, Buffe
 use Rattle.calls.specs.Streams.{codedDc, stepsFrom, stepCode, stepCodes, dcStream, symbolCodes, acStream}
 use Rattle.calls.specs.ReadPlane.{readPlaces, readBlocks, readSteps, predicted, readPlane}
 use Rattle.slice.specs.Plane.{lanesAt, blockCoefficients, coefficientsAt, transformed, filledFlat, blockSamples, reconstructAt}
-use Rattle.calls.specs.Questions.{codingQuestions, readingQuestions}
+use Rattle.calls.specs.Questions.{readingQuestions}
 use Rattle.slice.specs.Calls.{ownStreams, readPlanes, rowsMade, Decoded, decode, decodePlane}
+use Rattle.slice.specs.Room.{codingQuestions}
 
 -- ---- 8-bit, stride 8, place 1, preset 12, shift 2
 σ8 : Settings

@@ -32,8 +32,9 @@ use Rattle.calls.specs.Arguments.{eight, Settings, Plane, PerStream, Buffers}
 use Rattle.calls.specs.Streams.{codedDc, stepsFrom, stepCode, stepCodes, dcStream, symbolCodes, acStream}
 use Rattle.calls.specs.ReadPlane.{readPlaces, readBlocks, readSteps, predicted, readPlane}
 use Rattle.slice.specs.Plane.{lanesAt, blockCoefficients, coefficientsAt, transformed, filledFlat, blockSamples, reconstructAt}
-use Rattle.calls.specs.Questions.{codingQuestions, readingQuestions}
+use Rattle.calls.specs.Questions.{readingQuestions}
 use Rattle.slice.specs.Calls.{ownStreams, readPlanes, rowsMade, Decoded, decode, decodePlane}
+use Rattle.slice.specs.Room.{codingQuestions}
 
 -- an 8-bit plane, stride 8, all samples the same
 all : ℕ → ℕ → Plane

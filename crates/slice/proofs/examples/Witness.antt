@@ -20,12 +20,13 @@ use Rattle.calls.specs.Arguments.{eight, ten, Settings, Rows, Plane, Call, oneP
 use Rattle.calls.specs.Streams.{codedDc, stepsFrom, stepCode, stepCodes, dcStream, symbolCodes, acStream}
 use Rattle.calls.specs.ReadPlane.{readPlaces, readBlocks, readSteps, predicted, readPlane}
 use Rattle.slice.specs.Plane.{lanesAt, blockCoefficients, coefficientsAt}
-use Rattle.calls.specs.Questions.{codingQuestions, readingQuestions}
+use Rattle.calls.specs.Questions.{readingQuestions}
 use Rattle.slice.specs.Calls.{ownStreams, encode, readPlanes, decode}
 use Rattle.slice.specs.CallLists.{emptyBook, bookNumber, planesCoded, OneSetting, Follows, blocksRead}
 use Rattle.slice.specs.Demand3.{fed, planes, readFrom, ReadingHalf}
 use Rattle.slice.proofs.Runs.{encodeAll, decodeAll, encode-runs, decode-runs}
 use Rattle.slice.proofs.Demand3.{of-definitions}
+use Rattle.slice.specs.Room.{codingQuestions}
 
 σ : Settings
 σ = record { depth = eight; preset = 0; shift = 3 }

@@ -7,12 +7,12 @@ use native.Mathlib.Omega.{arith}
 use lib.ListN.{length}
 use borrow.Author.Needs.{needs, sfits-of}
 use mir.Facts.{toZ-ofZ}
-use Rattle.encplane.specs.Coding.{plane}
 use Rattle.planes.proofs.Laws.{corner-fits}
 use Rattle.write_block.specs.Depths.{depthOf, rowsOf}
 use Rattle.decplane.proofs.store.Loops.{Behind, Row, begun, as-long, asks, inside, next, next-row, ended, done}
 use Rattle.decplane.proofs.store.plane.Statement.{statement}
 use Rattle.decplane.proofs.store.plane.Tie as tie
+use Rattle.calls.specs.Arguments.{plane}
 
 -- the rows of the other depth are as they were lent
 abbrev Kept : Bool → List ℕ → List ℕ → List ℕ → List ℕ → Type 0
