@@ -5,6 +5,7 @@ use mathlib.Core.List.{List}
 use Prim.Native.Nat.{ℕ, _<_, _/_}
 use native.Mathlib.Omega.{arith}
 use lib.IntN.{ℤ, pos, negsuc}
+use lib.ListN.{getD}
 use Rattle.scalar.specs.Scalar.{addsOf, mulloOf, sraOf}
 use Rattle.scalar.proofs.Fill.{getD-tab, tab-ext}
 use Rattle.irow.specs.RowPass.{lane}
@@ -12,31 +13,30 @@ use Rattle.irow.specs.Stages.{shiftedOf}
 use Rattle.paint.specs.Paint.{storeBlock, sampleAt}
 use Rattle.paint.specs.Samples.{sampleOf}
 use Rattle.paint.proofs.Pixels.{store-ext}
-use Rattle.tables.specs.Divisor.{divisor}
-use Rattle.quant.specs.Quantise.{coefficient, dequantised, dequantiseBy, dequantShift, dequantiseOf}
+use Rattle.quant.specs.Quantise.{coefficient, dequantised, dequantiseWith, dequantShift, dequantiseOf}
 use Rattle.idct.specs.columns.Columns.{levelOf}
 use Rattle.idct.specs.Inverse.{inverseOf, samplesOf}
 use Rattle.idct.proofs.Bounds.{sample-at, sample-lt, sampleTop, level-law}
 use Rattle.dct.specs.Decode.{blockSample, numberSample}
 
--- ---- dequantising: the shift behind the products
+-- ---- dequantising: the shift after the products
 
 no-shift : (z : ℤ) → sraOf z 0 ≡ z
 unfolding sraOf
 no-shift (pos n) = ap pos (omega arith)
 no-shift (negsuc n) = ap negsuc (omega arith)
 
-shifted-law : (n preset : ℕ) (nat : List ℤ) → shiftedOf n (dequantiseBy 0 preset nat) ≡ dequantiseBy n preset nat
-unfolding shiftedOf dequantiseBy dequantised
-shifted-law n preset nat =
+shifted-law : (n : ℕ) (d : List ℕ) (nat : List ℤ) → shiftedOf n (dequantiseWith 0 d nat) ≡ dequantiseWith n d nat
+unfolding shiftedOf dequantiseWith dequantised
+shifted-law n d nat =
     tab-ext 64
     (λ i h.
     ap (λ (z : ℤ). sraOf z n)
-    (getD-tab 64 (λ i. sraOf (mulloOf (coefficient nat i) (pos (divisor preset i))) 0) i (pos 0) h ∙ no-shift (mulloOf (coefficient nat i) (pos (divisor preset i)))))
+    (getD-tab 64 (λ i. sraOf (mulloOf (coefficient nat i) (pos (getD d i 0))) 0) i (pos 0) h ∙ no-shift (mulloOf (coefficient nat i) (pos (getD d i 0)))))
 
-pub core-law : (ten : Bool) (preset : ℕ) (nat : List ℤ) {n : ℕ} {a r : List ℤ} → a ≡ dequantiseBy 0 preset nat → n ≡ dequantShift ten → r ≡ inverseOf ten (pos 0) (shiftedOf n a)
-    → r ≡ inverseOf ten (pos 0) (dequantiseOf ten preset nat)
-core-law ten preset nat ea en er = rw (er, en, ea, shifted-law (dequantShift ten) preset nat) refl
+pub core-law : (ten : Bool) (d : List ℕ) (nat : List ℤ) {n : ℕ} {a r : List ℤ} → a ≡ dequantiseWith 0 d nat → n ≡ dequantShift ten → r ≡ inverseOf ten (pos 0) (shiftedOf n a)
+    → r ≡ inverseOf ten (pos 0) (dequantiseWith (dequantShift ten) d nat)
+core-law ten d nat ea en er = rw (er, en, ea, shifted-law (dequantShift ten) d nat) refl
 
 -- ---- samples
 

@@ -26,7 +26,7 @@ pub fn plane8(
     for j in 0..2 {
         for i in 0..cols {
             let c = planes::corner(stride, j, i);
-            let z = dct::forward::fdct_quant_zig8(&rows[c..], stride, v, preset, &k);
+            let z = dct::forward::fdct_quant_zig8(&rows[c..], stride, v, &k);
             s = entropy::plane::code_block(s, z, shift, dcs, acs);
         }
     }
@@ -55,7 +55,7 @@ pub fn plane10(
     for j in 0..2 {
         for i in 0..cols {
             let c = planes::corner(stride, j, i);
-            let z = dct::forward::fdct_quant_zig16(&rows[c..], stride, v, preset, &k);
+            let z = dct::forward::fdct_quant_zig16(&rows[c..], stride, v, &k);
             s = entropy::plane::code_block(s, z, shift, dcs, acs);
         }
     }

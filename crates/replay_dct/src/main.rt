@@ -64,7 +64,7 @@ fn forward(nat: [i16; 64], add: i16, ten: bool, preset: usize) -> [i16; 64] {
     if preset < 25 {
         let k = tables::reciprocals::encode_numbers(preset);
         let w = fdct::fdct(nat, add, column_shift(ten));
-        let q = quant::quant(w, preset, &k);
+        let q = quant::quant(w, &k);
         quant::zigzag(q)
     } else {
         nat
@@ -75,7 +75,7 @@ fn forward(nat: [i16; 64], add: i16, ten: bool, preset: usize) -> [i16; 64] {
 fn inverse(nat: [i16; 64], level: i16, ten: bool, preset: usize) -> [i16; 64] {
     if preset < 25 {
         let d = tables::decode_numbers(preset);
-        let a = quant::dequant(nat, preset, &d, 0);
+        let a = quant::dequant(nat, &d, 0);
         if ten {
             let v = idct::inverse(a, 2, true);
             stored16(idct::words(v, level))
