@@ -76,8 +76,8 @@ def promises_page():
     rows, problems = list(promise_rows()), []
     shown = {number: [] for number, _, _ in rows}
     for path in edits():
-        head = read(path).split("\n")[0].removeprefix("# ").split(": ")[0]
-        for name in head.split(", "):
+        head = re.match(r"# (\S.*?): ", read(path))
+        for name in head.group(1).split(", ") if head else []:
             met = rows_of(name, crate_of(path), rows)
             if len(met) != 1:
                 problems.append(f"{named(path)}: {name} is in {len(met)} rows of docs/PROMISES.md")
