@@ -7,6 +7,7 @@
 """
 import re
 import sys
+from itertools import zip_longest
 
 sys.dont_write_bytecode = True
 
@@ -15,6 +16,7 @@ from trusted import CRATES, ROOT, clauses, crate_of, crates_listed, read
 
 TRUSTED = ROOT / "docs/TRUSTED.md"
 PROMISES = ROOT / "docs/PROMISES.md"
+DECISIONS = ROOT / "docs/DECISIONS.md"
 BEGIN, END = "<!-- computed by tests/documents.py --write -->\n", "\n<!-- computed up to here -->"
 LONGEST = 160
 NO_CRATE = {"std", "core", "u8", "u16", "u32", "u64", "usize", "i16", "i32", "crate"}
@@ -185,16 +187,28 @@ def long_contract_lines():
                     yield f"{named(path)}:{number}: a line of a contract has {len(line)} characters, more than {LONGEST}"
 
 
+def differs(path, computed):
+    """Where a page is not what is computed: its first line that differs."""
+    pairs = zip_longest(read(path).split("\n"), computed.split("\n"), fillvalue="")
+    for number, (line, wanted) in enumerate(pairs, 1):
+        if line != wanted:
+            yield f"{named(path)}:{number}: not as computed (python3 tests/documents.py --write): {wanted}"
+            return
+
+
+def too_long(path, words):
+    count = len(read(path).split())
+    if count > words:
+        yield f"{named(path)} has {count} words, more than {words}"
+
+
 def main(words):
     if words == ["--write"]:
         PROMISES.write_text(promises_page()[0], encoding="utf-8")
         TRUSTED.write_text(trusted_page(), encoding="utf-8")
         read.cache_clear()
     page, problems = promises_page()
-    if page != read(PROMISES):
-        problems.append("docs/PROMISES.md: the column of edits is not what the edits say; python3 tests/documents.py --write")
-    if trusted_page() != read(TRUSTED):
-        problems.append("docs/TRUSTED.md is not what the exported contracts cite; python3 tests/documents.py --write")
+    problems += [*differs(PROMISES, page), *differs(TRUSTED, trusted_page()), *too_long(DECISIONS, 2500)]
     problems += [*edit_problems(), *crate_problems(), *naming_problems(), *long_contract_lines()]
     for problem in problems:
         print(f"documents: {problem}")
