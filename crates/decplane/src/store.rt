@@ -4,9 +4,7 @@
 ghost use Rattle.write_block.specs.Depths.{depthOf, depthRows};
 ghost use Rattle.decplane.specs.store.Storing.{PlaneGood, PlaneStored};
 ghost use Rattle.calls.specs.Arguments.{settings, plane};
-ghost use Rattle.decplane.specs.store.Storing.{PlaneGood, PlaneStored};
 use entropy::plane::Ends;
-ghost use Rattle.calls.specs.Arguments.{settings, plane};
 
 // Stores a plane, read from the DC stream from d on and the AC stream from a on.
 pub fn plane(
