@@ -78,7 +78,7 @@ extern "C" {
         ac_len: At) -> u32;
 }
 
-/// A number as a verdict. The library answers 0 to 14.
+/// A number as a verdict: 0, or that of one of document 01's questions.
 fn verdict(number: u32) -> Verdict {
     match Refused::from_number(number) {
         Some(refused) => Err(refused),
