@@ -146,9 +146,8 @@ fn header_refused(run: &mut Run) {
     let before = rng.bytes(n);
     let mut out = before.clone();
     let found = builder::start(size, rng.once_in(2), 80, shift, &mut out, at);
-    run.report.same(kind, &(found, &out), &(Err(wanted), &before), n, || {
-        format!("{size:?} shift {shift} room {n} at {at}")
-    });
+    run.report
+        .same(kind, &(found, &out), &(Err(wanted), &before), n, || format!("{size:?} shift {shift} room {n} at {at}"));
 }
 
 /// The slice's sixteen rows out of the new picture where it was accepted, out of the held one where not.

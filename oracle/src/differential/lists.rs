@@ -137,7 +137,9 @@ fn whole<T: Made>(run: &mut Run, rust: &Rust, other: &impl Calls, depth: &str) {
         }
         let found = call.code(other, &mut ours);
         let at = |b: &Buffers| (b.dc_at, b.ac_at);
-        run.report.same(coding, &(found, at(&ours)), &(wanted, at(&book)), calls.len(), || format!("{} in {}", call.text(), list()));
+        run.report.same(coding, &(found, at(&ours)), &(wanted, at(&book)), calls.len(), || {
+            format!("{} in {}", call.text(), list())
+        });
     }
     run.report.same(bytes, &ours, &book, calls.len(), list);
 

@@ -248,9 +248,12 @@ fn counts<T: Made>(run: &mut Run) {
         let read = GUARDED.read_counted(settings, count, &mut q, &mut c);
         let changed = q != planes || c != before;
         let above = q.iter().zip(&planes).skip(count).all(|(x, y)| x == y);
-        run.report.check(kind, coded == wanted && read == wanted && moved == (wanted == 0) && changed == (wanted == 0) && above, 0, || {
-            format!("count {count}: {coded} and {read}, wanted {wanted}")
-        });
+        run.report.check(
+            kind,
+            coded == wanted && read == wanted && moved == (wanted == 0) && changed == (wanted == 0) && above,
+            0,
+            || format!("count {count}: {coded} and {read}, wanted {wanted}"),
+        );
     }
 }
 
@@ -265,7 +268,8 @@ fn sizes(run: &mut Run) {
     }
     for _ in 0..20_000 {
         let rng = &mut run.rng;
-        let s: [usize; 4] = core::array::from_fn(|_| if rng.once_in(6) { around(rng, 7680) } else { 8 * rng.between(1, 960) });
+        let s: [usize; 4] =
+            core::array::from_fn(|_| if rng.once_in(6) { around(rng, 7680) } else { 8 * rng.between(1, 960) });
         let count = around(rng, 4);
         let number = if (1..=4).contains(&count) { questions::strides(&s[..count]) } else { 3 };
         let wanted = if number == 0 {

@@ -7,7 +7,10 @@ use crate::slice::level_shift;
 
 /// A sample type: `u8` for 8-bit planes, `u16` for 10-bit planes.
 #[allow(private_bounds)]
-pub trait Sample: crate::slice::Sample + crate::slice::DecodeOut + Default + PartialEq + std::fmt::Debug + 'static {}
+pub trait Sample:
+    crate::slice::Sample + crate::slice::DecodeOut + Default + PartialEq + std::fmt::Debug + 'static
+{
+}
 impl Sample for u8 {}
 impl Sample for u16 {}
 
@@ -64,7 +67,11 @@ pub fn decode_plane_preview(
 
 /// The streams of a slice of `planes` (stride, sixteen rows), by
 /// `encode_one_slice` (SSE2 path only).
-pub fn encode_one_slice<T: Sample>(planes: &[(usize, Vec<T>)], matrix: &[u16; 192], dc_shift: u32) -> (Vec<u8>, Vec<u8>) {
+pub fn encode_one_slice<T: Sample>(
+    planes: &[(usize, Vec<T>)],
+    matrix: &[u16; 192],
+    dc_shift: u32,
+) -> (Vec<u8>, Vec<u8>) {
     let mut pl = Planes { data: [vec![], vec![], vec![], vec![]], strides: [8; 4] };
     for (p, (stride, rows)) in planes.iter().enumerate() {
         pl.strides[p] = *stride;
