@@ -12,7 +12,7 @@ pub struct Bits {
 impl Bits {
     pub fn put(&mut self, v: u64, n: usize) {
         for k in (0..n).rev() {
-            if self.len % 8 == 0 {
+            if self.len.is_multiple_of(8) {
                 self.bytes.push(0);
             }
             let bit = ((v >> k) & 1) as u8;
