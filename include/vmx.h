@@ -106,7 +106,7 @@ uint32_t vmx_slice_size(size_t count, size_t stride0, size_t stride1, size_t str
 /* The preview of a plane, one byte a block, from its DC stream alone: stride / 8 bytes into each of upper and lower (the
  * upper and the lower eight rows); bytes behind them stay. The stream is read through before a byte is stored.
  * Number: 2, 3, 4, 5, 7, 8. Refused: both outputs and *dc_at stay as they were. */
-uint32_t vmx_preview(uint32_t shift, uint32_t place, size_t stride, uint8_t *upper, size_t upper_len, uint8_t *lower,
+uint32_t vmx_preview(uint32_t shift, size_t place, size_t stride, uint8_t *upper, size_t upper_len, uint8_t *lower,
                      size_t lower_len, const uint8_t *dc, size_t dc_len, size_t *dc_at);
 
 /* The block report of a plane, from its AC stream alone: stride / 4 bytes, one a block in coding order (left to right,

@@ -18,6 +18,9 @@ static void check(int ok, const char *what) {
 /* 16 x 32 samples: two slices. */
 enum { WIDTH = 16, HEIGHT = 32, ROOM = 64 };
 
+/* 0 where it is cut to 32 bits. */
+static const size_t FAR = (size_t)1 << 32;
+
 static void geometry(void) {
     size_t aligned = 7, slices = 7, luma = 7, chroma = 7, dc = 7, ac = 7;
     check(vmx_layout(WIDTH, HEIGHT, &aligned, &slices, &luma, &chroma, &dc, &ac) == VMX_OK, "layout");
@@ -65,6 +68,8 @@ static void planes(void) {
           "shift 16");
     check(vmx_encode_plane8(rows, sizeof rows, 8, 4, 0, 0, dc, sizeof dc, &d, ac, sizeof ac, &a) == VMX_NO_PLANE,
           "place 4");
+    check(vmx_encode_plane8(rows, sizeof rows, 8, FAR, 0, 0, dc, sizeof dc, &d, ac, sizeof ac, &a) == VMX_NO_PLANE,
+          "place 2^32");
     check(vmx_encode_plane8(rows, sizeof rows, 12, 0, 0, 0, dc, sizeof dc, &d, ac, sizeof ac, &a) == VMX_NO_STRIDE,
           "stride 12");
     check(vmx_encode_plane8(rows, 127, 8, 0, 0, 0, dc, sizeof dc, &d, ac, sizeof ac, &a) == VMX_NO_ROWS, "127 samples");
@@ -130,6 +135,8 @@ static void previews(void) {
     check(vmx_preview(0, 0, 8, upper, 2, lower, 2, dc, sizeof dc, &at) == VMX_OK, "preview of the next plane");
     check(at == 7 && upper[0] == 255 && lower[0] == 255, "DC 1016");
     at = 0;
+    check(vmx_preview(0, 4, 8, upper, 2, lower, 2, dc, sizeof dc, &at) == VMX_NO_PLANE, "place 4");
+    check(vmx_preview(0, FAR, 8, upper, 2, lower, 2, dc, sizeof dc, &at) == VMX_NO_PLANE, "place 2^32");
     check(vmx_preview(0, 0, 8, upper, 2, lower, 2, bad, sizeof bad, &at) == VMX_NO_CODE, "a bad code");
     check(vmx_preview(0, 0, 8, upper, 2, lower, 0, dc, sizeof dc, &at) == VMX_NO_ROWS, "no room for the lower row");
     check(at == 0 && upper[0] == 255 && lower[0] == 255, "nothing changed on refusal");
@@ -256,6 +263,7 @@ static void reading(void) {
               == VMX_NO_CODE, "a bad code in a slice");
     check(d == 0 && a == 0 && memcmp(back, old, 128) == 0 && memcmp(second, old, 128) == 0, "both planes stay");
     check(vmx_decode_plane8(back, 128, 8, 0, 25, 0, bad, sizeof bad, &d, none, 0, &a) == VMX_NO_PRESET, "preset 25");
+    check(vmx_decode_plane8(back, 128, 8, FAR, 0, 0, dc, dc_end, &d, ac, ac_end, &a) == VMX_NO_PLANE, "place 2^32");
     d = 16777216;
     check(vmx_decode_plane8(back, 128, 8, 0, 0, 0, dc, dc_end, &d, ac, ac_end, &a) == VMX_NO_START && d == 16777216,
           "a start too far");

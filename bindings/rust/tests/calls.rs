@@ -114,6 +114,7 @@ fn previews_and_reports_are_refused_too() {
     };
     assert_eq!(preview(8, 0, 16, &[], 0), 2);
     assert_eq!(preview(8, 4, 15, &[], 0), 3);
+    assert_eq!(preview(8, 1 << 32, 15, &[], 0), 3);
     assert_eq!(preview(8, usize::MAX, 15, &[], 0), 3);
     assert_eq!(preview(9, 3, 15, &[], 0), 4);
     assert_eq!(preview(24, 3, 15, &[], 0), 5);

@@ -142,13 +142,14 @@ fn reported<T>(run: &mut Run, rust: &Rust, other: &impl Calls, r: &Reading<T>, b
     run.report.same(kind, &(found, y, c), &(wanted, x, b), r.size(), || r.text());
 }
 
-/// A number that is mostly within, at times at the limit, past it, or anything.
+/// A number that is mostly within, at times at the limit, past it, within when it is cut to 32 bits, or anything.
 fn around(rng: &mut Rng, limit: usize) -> usize {
     match rng.below(12) {
         0 => limit + 1,
         1 => rng.next() as usize,
         2 => usize::MAX - rng.below(3),
         3 => limit,
+        4 => (1 << 32) + rng.below(limit + 1),
         _ => rng.below(limit + 1),
     }
 }

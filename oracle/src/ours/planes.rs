@@ -41,7 +41,7 @@ calls!(u16, vmx_encode_plane10, vmx_encode_slice10, vmx_decode_plane10, vmx_deco
 #[rustfmt::skip]
 unsafe extern "C" {
     fn vmx_preview(
-        shift: u32, place: u32, stride: usize, upper: *mut u8, un: usize, lower: *mut u8, ln: usize,
+        shift: u32, place: usize, stride: usize, upper: *mut u8, un: usize, lower: *mut u8, ln: usize,
         dc: *const u8, dn: usize, dc_at: &mut usize,
     ) -> u32;
     fn vmx_block_report(stride: usize, report: *mut u8, n: usize, ac: *const u8, an: usize, ac_at: &mut usize) -> u32;
@@ -242,8 +242,6 @@ impl Calls for Ours {
     fn preview(&self, dc_shift: u32, place: usize, stride: usize, out: [&mut [u8]; 2], b: &mut Buffers) -> u32 {
         let [x, y] = out.map(|o| Lent::new(o, self.guards));
         let (mut x, mut y) = (x, y);
-        // The call takes a place of 32 bits: what does not fit is above 3 as well.
-        let place = u32::try_from(place).unwrap_or(u32::MAX);
         let (u, un, l, ln) = (x.at(), x.own.len(), y.at(), y.own.len());
         // SAFETY: two outputs and a stream with their own lengths, each apart from the others.
         let number =
