@@ -89,7 +89,7 @@ static void planes(void) {
     check(d == 1 && dc[0] == 0xF0 && a == 2 && ac[0] == 0x80 && ac[1] == 0x80, "its streams");
 }
 
-/* Planes 0 and 1, each all zeros behind its level: their streams, one behind the other. */
+/* Planes 0 and 1, each all zeros once its level is taken off: their streams, one after the other. */
 static void slices(void) {
     static const uint8_t dc_want[] = {0xF0, 0xF0}, ac_want[] = {0x80, 0x80, 0x80, 0x80};
     uint8_t p0[128], p1[128], none[1] = {0}, dc[16], ac[788];
@@ -125,7 +125,7 @@ static void slices(void) {
 }
 
 static void previews(void) {
-    /* DC 1020 is 0 here, DC 1016 is 255; both behind a byte of something else */
+    /* DC 1020 is 0 here, DC 1016 is 255; both after a byte of something else */
     static const uint8_t dc[] = {0x55, 0x00, 0x3F, 0xCE, 0x00, 0x3F, 0x8E}, bad[] = {0, 0, 0, 0, 0, 0, 0},
                          ac[] = {0x80, 0x80};
     uint8_t upper[2] = {7, 7}, lower[2] = {7, 7}, report[3] = {7, 7, 7};
@@ -186,7 +186,7 @@ static void frame(void) {
     check(vmx_frame_put(slices, dc, ac, 1, 0, ac0, sizeof ac0, out, ROOM, &turn, &next, &at) == VMX_OK, "AC 0");
     check(vmx_frame_put(slices, dc, ac, 1, 1, ac1, sizeof ac1, out, ROOM, &turn, &next, &at) == VMX_OK, "AC 1");
     check(at == sizeof whole && memcmp(out, whole, sizeof whole) == 0, "the frame's bytes");
-    check(out[at] == 0xAA, "no byte behind the frame");
+    check(out[at] == 0xAA, "no byte after the frame");
 
     check(vmx_parse(WIDTH, HEIGHT, out, at, &interlaced, &quality, &shift, &header_len, &there) == VMX_OK, "parse");
     check(interlaced == 0 && quality == 36 && shift == 4 && header_len == 5 && there == 1, "the header");
@@ -247,7 +247,7 @@ static void reading(void) {
     d = a = 0;
     check(vmx_decode_plane8(back, sizeof back, 8, 0, 0, 0, dc, dc_end, &d, ac, ac_end, &a) == VMX_OK, "read");
     check(d == dc_end && a == ac_end, "read up to where it was coded");
-    check(memcmp(back, rows, 128) == 0 && back[128] == 7 && back[135] == 7, "the samples, and those behind them");
+    check(memcmp(back, rows, 128) == 0 && back[128] == 7 && back[135] == 7, "the samples, and those after them");
 
     d = a = 0;
     check(vmx_decode_plane8(back, 128, 8, 0, 0, 0, none, 0, &d, none, 0, &a) == VMX_OK, "two empty streams");

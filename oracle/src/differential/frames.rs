@@ -135,7 +135,7 @@ fn bad_size(run: &mut Run, kinds: &Kinds, width: usize, height: usize) {
 }
 
 /// All streams' places in a table of so many numbers: question 5 comes before all others, a refused call leaves the
-/// table as it was, and so do all numbers behind the places.
+/// table as it was, and so do all numbers after the places.
 fn table(run: &mut Run, kinds: &Kinds, size: (usize, usize), frame: &[u8], room: usize, rust: &Result<Container, u32>) {
     let (width, height) = size;
     let fill = run.rng.next() as u32;

@@ -41,8 +41,8 @@ fn both<T: Made>(run: &mut Run, rust: &Rust, portable: &Rust, depth: &str) {
 /// Bytes of a buffer: junk, then room for `need` bytes, then more junk.
 fn buffer(rng: &mut Rng, need: usize) -> (Vec<u8>, usize) {
     let at = if rng.once_in(3) { 0 } else { rng.below(30) };
-    let behind = if rng.once_in(3) { 0 } else { rng.below(20) };
-    (rng.bytes(at + need + behind), at)
+    let after = if rng.once_in(3) { 0 } else { rng.below(20) };
+    (rng.bytes(at + need + after), at)
 }
 
 fn text<T: std::fmt::Debug>(s: Settings, (place, stride, rows): &Plane<T>, b: &Buffers) -> String {
@@ -63,7 +63,7 @@ fn coded<T: Made>(run: &mut Run, rust: &Rust, other: &impl PlaneCoder, depth: &s
     let rng = &mut run.rng;
     let stride = planes::stride(rng);
     let mut rows: Vec<T> = planes::samples(rng, stride);
-    // Samples behind the sixteen rows are not looked at.
+    // Samples after the sixteen rows are not looked at.
     if rng.once_in(3) {
         rows.extend((0..rng.below(20)).map(|_| T::any(rng)));
     }
@@ -87,7 +87,7 @@ fn read<T: Made>(run: &mut Run, rust: &Rust, other: &impl Calls, depth: &str) {
         rust.streams::<T>(settings, &(r.place, r.stride, planes::samples(rng, r.stride)))
     });
     let settings = Settings { preset: r.preset, dc_shift: r.dc_shift };
-    // Samples behind the sixteen rows stay.
+    // Samples after the sixteen rows stay.
     let mut rows = r.rows.clone();
     rows.extend((0..run.rng.below(12)).map(|_| T::any(&mut run.rng)));
     let plane = (r.place, r.stride, rows);

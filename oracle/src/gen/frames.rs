@@ -80,7 +80,7 @@ pub fn parts(rng: &mut Rng) -> Parts {
     }
 }
 
-/// One change to a frame: a byte, a cut, bytes behind, another header.
+/// One change to a frame: a byte, a cut, bytes at its end, another header.
 pub fn change(rng: &mut Rng, frame: &mut Vec<u8>) {
     let len = frame.len();
     match rng.below(8) {

@@ -92,7 +92,7 @@ pub fn ac_codes(rng: &mut Rng, out: &mut Bits, places: usize) {
             3 if rng.once_in(10) => {
                 let z = zeros(rng, true);
                 out.long_run(rng, z);
-                // Its length is not known here: behind it stand codes for the rest.
+                // Its length is not known here: codes for the rest follow it.
                 at += 1;
                 continue;
             }

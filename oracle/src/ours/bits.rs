@@ -42,7 +42,7 @@ pub fn write_pairs(runs: &[u32], codes: &[u32], at: usize, out: &mut [u8]) -> us
     }
 }
 
-/// A code that was read: head bit, number (0: a bad code), the bit behind it.
+/// A code that was read: head bit, number (0: a bad code), the bit after it.
 #[derive(Clone, Copy, Debug, Default, PartialEq, Eq)]
 pub struct Code {
     pub run: u64,

@@ -109,8 +109,8 @@ impl<'a, T: Made> Lent<'a, T> {
 
     fn back(self) {
         if let Some((before, rest)) = self.copy.split_at_checked(GUARD) {
-            let (lent, behind) = rest.split_at(self.own.len());
-            assert!(before == Self::guard() && behind == Self::guard(), "a call wrote outside what it was lent");
+            let (lent, after) = rest.split_at(self.own.len());
+            assert!(before == Self::guard() && after == Self::guard(), "a call wrote outside what it was lent");
             self.own.copy_from_slice(lent);
         }
     }

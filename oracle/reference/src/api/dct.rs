@@ -31,7 +31,8 @@ pub fn broadcast_dc8(dc: i16, dst: &mut [u8], stride: usize, add: i16) {
     crate::dct::broadcast_dc8(dc, dst, stride, add)
 }
 
-/// Forward transform, quantiser and zig-zag of a row of blocks, their lanes taken as encode_plane takes them; the last block's numbers are kept.
+/// Forward transform, quantiser and zig-zag of a row of blocks, their lanes taken as encode_plane takes them; the last
+/// block's numbers are kept.
 pub fn forward_row<T: super::slice::Sample>(
     path: Path,
     rows: &[T],

@@ -32,7 +32,7 @@ pub fn encode_plane<T: Sample>(
     (dc.into_bytes(), ac.into_bytes())
 }
 
-/// Reads one plane at byte positions; the positions behind it, or nothing where
+/// Reads one plane at byte positions; the positions after it, or nothing where
 /// it is corrupt (`rows` then holds the blocks before that place).
 #[allow(clippy::too_many_arguments)]
 pub fn decode_plane<T: Sample>(
@@ -51,7 +51,7 @@ pub fn decode_plane<T: Sample>(
     Some((d.bit_pos() / 8, a.bit_pos() / 8))
 }
 
-/// Reads the preview of one plane; the DC position behind it.
+/// Reads the preview of one plane; the DC position after it.
 pub fn decode_plane_preview(
     out0: &mut [u8],
     out1: &mut [u8],
