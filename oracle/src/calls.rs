@@ -57,7 +57,13 @@ impl Rust {
     }
 
     /// A plane read at positions: the ends, or nothing at a bad code.
-    pub fn rows<T: Made>(&self, s: Settings, plane: &mut Plane<T>, b: &Buffers, at: (usize, usize)) -> Option<(usize, usize)> {
+    pub fn rows<T: Made>(
+        &self,
+        s: Settings,
+        plane: &mut Plane<T>,
+        b: &Buffers,
+        at: (usize, usize),
+    ) -> Option<(usize, usize)> {
         let (place, stride, rows) = plane;
         let q = &self.quants[s.preset].decode;
         let (dc, ac) = ((&b.dc[..], at.0), (&b.ac[..], at.1));
@@ -65,7 +71,14 @@ impl Rust {
     }
 
     /// The published preview alone, into the rows themselves: for timing.
-    pub fn preview_in_place(&self, dc_shift: u32, place: usize, stride: usize, out: [&mut [u8]; 2], b: &mut Buffers) -> u32 {
+    pub fn preview_in_place(
+        &self,
+        dc_shift: u32,
+        place: usize,
+        stride: usize,
+        out: [&mut [u8]; 2],
+        b: &mut Buffers,
+    ) -> u32 {
         let [x, y] = out;
         match slice::decode_plane_preview(x, y, stride, place, dc_shift, (&b.dc, b.dc_at)) {
             None => 8,

@@ -8,7 +8,6 @@ use replay::call_of;
 use replay::count;
 use replay::cut;
 use replay::cut16;
-use replay::number;
 use replay::part;
 use replay::size;
 
@@ -128,7 +127,7 @@ fn slice10(
 fn previewed(b: &[u8], c: Asked, dc: &[u8], upper: &mut [u8], lower: &mut [u8]) -> bool {
     let r = preview::preview(
         c.shift,
-        replay::widened(number(b, 8)),
+        c.which,
         c.strides.p0,
         cut(upper, c.counts.p0),
         cut(lower, c.counts.p1),

@@ -10,7 +10,7 @@ ghost use Rattle.outs.specs.plane.Planes.{previewedAs, reportedAs};
 #[no_mangle]
 pub extern "C" fn vmx_preview(
     shift: u32,
-    place: u32,
+    place: usize,
     stride: usize,
     upper: &mut [u8],
     lower: &mut [u8],

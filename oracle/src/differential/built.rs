@@ -34,8 +34,8 @@ fn built(run: &mut Run) {
     let size = (p.width, p.height);
     let frame = write(&l, p.interlaced, p.quality as i32, p.dc_shift, &p.dc, &p.ac);
     let at = run.rng.below(7);
-    let behind = run.rng.below(7);
-    let before = run.rng.bytes(at + frame.len() + behind);
+    let after = run.rng.below(7);
+    let before = run.rng.bytes(at + frame.len() + after);
     let mut out = before.clone();
     let mut state = match builder::start(size, p.interlaced, p.quality, p.dc_shift, &mut out, at) {
         Ok(state) => state,
@@ -146,9 +146,8 @@ fn header_refused(run: &mut Run) {
     let before = rng.bytes(n);
     let mut out = before.clone();
     let found = builder::start(size, rng.once_in(2), 80, shift, &mut out, at);
-    run.report.same(kind, &(found, &out), &(Err(wanted), &before), n, || {
-        format!("{size:?} shift {shift} room {n} at {at}")
-    });
+    run.report
+        .same(kind, &(found, &out), &(Err(wanted), &before), n, || format!("{size:?} shift {shift} room {n} at {at}"));
 }
 
 /// The slice's sixteen rows out of the new picture where it was accepted, out of the held one where not.

@@ -82,7 +82,8 @@ fn small(run: &mut Run, kinds: &Kinds) {
         let l = Layout::new(width, height).unwrap();
         for shift in [0, 3] {
             for with_ac in [true, false] {
-                let streams = |n: usize| -> Vec<Vec<u8>> { (0..l.slices()).map(|i| vec![i as u8; (i + n) % 4]).collect() };
+                let streams =
+                    |n: usize| -> Vec<Vec<u8>> { (0..l.slices()).map(|i| vec![i as u8; (i + n) % 4]).collect() };
                 let ac = if with_ac { streams(2) } else { vec![] };
                 let frame = write(&l, true, 80, shift, &streams(1), &ac);
                 for cut in 0..=frame.len() {
@@ -134,7 +135,7 @@ fn bad_size(run: &mut Run, kinds: &Kinds, width: usize, height: usize) {
 }
 
 /// All streams' places in a table of so many numbers: question 5 comes before all others, a refused call leaves the
-/// table as it was, and so do all numbers behind the places.
+/// table as it was, and so do all numbers after the places.
 fn table(run: &mut Run, kinds: &Kinds, size: (usize, usize), frame: &[u8], room: usize, rust: &Result<Container, u32>) {
     let (width, height) = size;
     let fill = run.rng.next() as u32;
@@ -150,7 +151,11 @@ fn table(run: &mut Run, kinds: &Kinds, size: (usize, usize), frame: &[u8], room:
     }
     let answer = ours::layout::streams(width, height, frame, &mut found);
     run.report.same(kinds.tables, &(answer, found), &(number, wanted), frame.len(), || {
-        format!("width {width} height {height} room {room} frame of {}: {:02x?}", frame.len(), &frame[..frame.len().min(200)])
+        format!(
+            "width {width} height {height} room {room} frame of {}: {:02x?}",
+            frame.len(),
+            &frame[..frame.len().min(200)]
+        )
     });
 }
 
@@ -162,7 +167,8 @@ fn header(c: &Container) -> [usize; 5] {
 /// One frame: its header or its refusal, some of its streams, and all of them in a table.
 fn judged(run: &mut Run, kinds: &Kinds, width: usize, height: usize, l: &Layout, frame: &[u8]) {
     let rust = parse(l, frame).map_err(number);
-    let text = || format!("width {width} height {height} frame of {}: {:02x?}", frame.len(), &frame[..frame.len().min(200)]);
+    let text =
+        || format!("width {width} height {height} frame of {}: {:02x?}", frame.len(), &frame[..frame.len().min(200)]);
     let found = ours::layout::parse(width, height, frame);
     let wanted = rust.as_ref().map(header).map_err(|x| *x);
     let kind = if wanted.is_ok() { kinds.read } else { kinds.refused };

@@ -41,8 +41,8 @@ fn both<T: Made>(run: &mut Run, rust: &Rust, portable: &Rust, depth: &str) {
 /// Bytes of a buffer: junk, then room for `need` bytes, then more junk.
 fn buffer(rng: &mut Rng, need: usize) -> (Vec<u8>, usize) {
     let at = if rng.once_in(3) { 0 } else { rng.below(30) };
-    let behind = if rng.once_in(3) { 0 } else { rng.below(20) };
-    (rng.bytes(at + need + behind), at)
+    let after = if rng.once_in(3) { 0 } else { rng.below(20) };
+    (rng.bytes(at + need + after), at)
 }
 
 fn text<T: std::fmt::Debug>(s: Settings, (place, stride, rows): &Plane<T>, b: &Buffers) -> String {
@@ -63,7 +63,7 @@ fn coded<T: Made>(run: &mut Run, rust: &Rust, other: &impl PlaneCoder, depth: &s
     let rng = &mut run.rng;
     let stride = planes::stride(rng);
     let mut rows: Vec<T> = planes::samples(rng, stride);
-    // Samples behind the sixteen rows are not looked at.
+    // Samples after the sixteen rows are not looked at.
     if rng.once_in(3) {
         rows.extend((0..rng.below(20)).map(|_| T::any(rng)));
     }
@@ -87,7 +87,7 @@ fn read<T: Made>(run: &mut Run, rust: &Rust, other: &impl Calls, depth: &str) {
         rust.streams::<T>(settings, &(r.place, r.stride, planes::samples(rng, r.stride)))
     });
     let settings = Settings { preset: r.preset, dc_shift: r.dc_shift };
-    // Samples behind the sixteen rows stay.
+    // Samples after the sixteen rows stay.
     let mut rows = r.rows.clone();
     rows.extend((0..run.rng.below(12)).map(|_| T::any(&mut run.rng)));
     let plane = (r.place, r.stride, rows);
@@ -142,13 +142,14 @@ fn reported<T>(run: &mut Run, rust: &Rust, other: &impl Calls, r: &Reading<T>, b
     run.report.same(kind, &(found, y, c), &(wanted, x, b), r.size(), || r.text());
 }
 
-/// A number that is mostly within, at times at the limit, past it, or anything.
+/// A number that is mostly within, at times at the limit, past it, within when it is cut to 32 bits, or anything.
 fn around(rng: &mut Rng, limit: usize) -> usize {
     match rng.below(12) {
         0 => limit + 1,
         1 => rng.next() as usize,
         2 => usize::MAX - rng.below(3),
         3 => limit,
+        4 => (1 << 32) + rng.below(limit + 1),
         _ => rng.below(limit + 1),
     }
 }
@@ -248,9 +249,12 @@ fn counts<T: Made>(run: &mut Run) {
         let read = GUARDED.read_counted(settings, count, &mut q, &mut c);
         let changed = q != planes || c != before;
         let above = q.iter().zip(&planes).skip(count).all(|(x, y)| x == y);
-        run.report.check(kind, coded == wanted && read == wanted && moved == (wanted == 0) && changed == (wanted == 0) && above, 0, || {
-            format!("count {count}: {coded} and {read}, wanted {wanted}")
-        });
+        run.report.check(
+            kind,
+            coded == wanted && read == wanted && moved == (wanted == 0) && changed == (wanted == 0) && above,
+            0,
+            || format!("count {count}: {coded} and {read}, wanted {wanted}"),
+        );
     }
 }
 
@@ -265,7 +269,8 @@ fn sizes(run: &mut Run) {
     }
     for _ in 0..20_000 {
         let rng = &mut run.rng;
-        let s: [usize; 4] = core::array::from_fn(|_| if rng.once_in(6) { around(rng, 7680) } else { 8 * rng.between(1, 960) });
+        let s: [usize; 4] =
+            core::array::from_fn(|_| if rng.once_in(6) { around(rng, 7680) } else { 8 * rng.between(1, 960) });
         let count = around(rng, 4);
         let number = if (1..=4).contains(&count) { questions::strides(&s[..count]) } else { 3 };
         let wanted = if number == 0 {
