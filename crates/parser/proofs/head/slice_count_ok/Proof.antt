@@ -1,10 +1,10 @@
--- `parser::head::count_ok`.
+-- `parser::head::slice_count_ok`.
 use borrow.Author.Needs.{needs}
 use mathlib.Core.Path.{_≡_, refl, ap}
 use native.Mathlib.Omega.{arith}
 use Rattle.parser.proofs.head.Laws.{format-small}
-use Rattle.parser.proofs.head.count_ok.Statement.{statement}
-use Rattle.parser.proofs.head.count_ok.Tie as tie
+use Rattle.parser.proofs.head.slice_count_ok.Statement.{statement}
+use Rattle.parser.proofs.head.slice_count_ok.Tie as tie
 
 format-at-requires : tie.Need-format-at-requires
 format-at-requires c κs = search needs
@@ -19,7 +19,7 @@ returns : tie.Need-returns
 returns c =
     rw (c .slice-count .ensures, c .before .wide .ensures .0, c .before .before .before .format-at .ensures)
 
-pub count-ok-spec : {M : Type 1} → statement M
-count-ok-spec =
+pub slice-count-ok-spec : {M : Type 1} → statement M
+slice-count-ok-spec =
     tie.close
     (tie.spec format-at-requires add-wide shared-slice-read-wide (λ c κs. search needs) (λ c κs. search needs) returns)
