@@ -1,7 +1,7 @@
--- `vmx::reading::vmx_decode_slice8`.
+-- `vmx::eight::vmx_decode_slice8`.
 use mathlib.Core.Path.{_∙_}
-use Rattle.vmx.proofs.reading.vmx_decode_slice8.Statement.{statement}
-use Rattle.vmx.proofs.reading.vmx_decode_slice8.Tie as tie
+use Rattle.vmx.proofs.eight.vmx_decode_slice8.Statement.{statement}
+use Rattle.vmx.proofs.eight.vmx_decode_slice8.Tie as tie
 
 returns : tie.Need-returns
 returns c =

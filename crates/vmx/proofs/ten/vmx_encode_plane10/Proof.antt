@@ -1,7 +1,7 @@
--- `vmx::coding::vmx_encode_plane10`.
+-- `vmx::ten::vmx_encode_plane10`.
 use mathlib.Core.Path.{_∙_}
-use Rattle.vmx.proofs.coding.vmx_encode_plane10.Statement.{statement}
-use Rattle.vmx.proofs.coding.vmx_encode_plane10.Tie as tie
+use Rattle.vmx.proofs.ten.vmx_encode_plane10.Statement.{statement}
+use Rattle.vmx.proofs.ten.vmx_encode_plane10.Tie as tie
 
 returns : tie.Need-returns
 returns c =
