@@ -4,7 +4,7 @@
 //! stores nothing where a code is bad.
 
 use crate::gen::planes::Made;
-use crate::questions::{self, Settings, Shape};
+use crate::questions::{self, Settings, Shape, NO_CODE};
 use reference::api::bits::{AcSymbol, Cursor};
 use reference::api::tables::{quant, Quant, PRESETS};
 use reference::api::{slice, Path};
@@ -81,7 +81,7 @@ impl Rust {
     ) -> u32 {
         let [x, y] = out;
         match slice::decode_plane_preview(x, y, stride, place, dc_shift, (&b.dc, b.dc_at)) {
-            None => 8,
+            None => NO_CODE,
             Some(end) => {
                 b.dc_at = end;
                 0
@@ -161,7 +161,7 @@ impl Calls for Rust {
         for plane in &mut made {
             match self.rows(s, plane, b, at) {
                 Some(ends) => at = ends,
-                None => return 8,
+                None => return NO_CODE,
             }
         }
         planes.clone_from_slice(&made);
@@ -177,7 +177,7 @@ impl Calls for Rust {
         }
         let (mut p, mut q) = (x.to_vec(), y.to_vec());
         match slice::decode_plane_preview(&mut p, &mut q, stride, place, dc_shift, (&b.dc, b.dc_at)) {
-            None => 8,
+            None => NO_CODE,
             Some(end) => {
                 x.copy_from_slice(&p);
                 y.copy_from_slice(&q);
@@ -202,7 +202,7 @@ impl Calls for Rust {
                 pending += match cursor.symbol() {
                     Some(AcSymbol::Run(n)) => n,
                     Some(AcSymbol::Value(_)) => 1,
-                    None => return 8,
+                    None => return NO_CODE,
                 };
             }
             pending -= 64;

@@ -3,6 +3,7 @@
 use super::Run;
 use crate::gen::frames;
 use crate::ours;
+use crate::questions::{NO_ROWS, NO_TURN, SLICES_MAX};
 use crate::report::Kind;
 use reference::api::layout::{number, parse, write, Container, Layout};
 
@@ -130,7 +131,7 @@ fn bad_size(run: &mut Run, kinds: &Kinds, width: usize, height: usize) {
     let text = || format!("width {width} height {height} frame {frame:02x?}");
     run.report.same(kinds.refused, &ours::layout::parse(width, height, &frame), &Err(number(e)), n, text);
     run.report.same(kinds.views, &ours::layout::view(width, height, &frame, false, 0), &Err(number(e)), n, text);
-    let room = run.rng.pick(&[0, 4 * 270, 8]);
+    let room = run.rng.pick(&[0, 4 * SLICES_MAX, 8]);
     table(run, kinds, (width, height), &frame, room, &Err(number(e)));
 }
 
@@ -142,7 +143,7 @@ fn table(run: &mut Run, kinds: &Kinds, size: (usize, usize), frame: &[u8], room:
     let mut wanted: Vec<u32> = (0..room as u32).map(|i| fill ^ i).collect();
     let mut found = wanted.clone();
     let slices = height / 16 + (height % 16 > 0) as usize;
-    let number = if room / 4 < slices { Err(5) } else { rust.as_ref().map(header).map_err(|x| *x) };
+    let number = if room / 4 < slices { Err(NO_ROWS) } else { rust.as_ref().map(header).map_err(|x| *x) };
     if let (Ok(_), Ok(c)) = (&number, rust) {
         let none = vec![(0, 0); slices];
         let ac = if c.ac.is_empty() { &none } else { &c.ac };
@@ -177,7 +178,7 @@ fn judged(run: &mut Run, kinds: &Kinds, width: usize, height: usize, l: &Layout,
         for ac in [false, true] {
             let wanted = rust.as_ref().map_err(|x| *x).and_then(|c| {
                 let list = if ac { &c.ac } else { &c.dc };
-                list.get(slice).copied().ok_or(14)
+                list.get(slice).copied().ok_or(NO_TURN)
             });
             let found = ours::layout::view(width, height, frame, ac, slice);
             run.report.same(kinds.views, &found, &wanted, frame.len(), || format!("slice {slice} ac {ac} {}", text()));
