@@ -14,7 +14,7 @@ use Rattle.paint.specs.Paint.{storeBlock, sampleAt}
 use Rattle.paint.specs.Samples.{sampleOf}
 use Rattle.paint.proofs.Pixels.{store-ext}
 use Rattle.quant.specs.Quantise.{coefficient, dequantised, dequantiseWith, dequantShift, dequantiseOf}
-use Rattle.idct.specs.columns.Columns.{levelOf}
+use Rattle.idct.specs.columns.Columns.{levelAddedOf}
 use Rattle.idct.specs.Inverse.{inverseOf, samplesOf}
 use Rattle.idct.proofs.Bounds.{sample-at, sample-lt, sampleTop, level-law}
 use Rattle.dct.specs.Decode.{blockSample, numberSample}
@@ -40,18 +40,18 @@ core-law ten d nat ea en er = rw (er, en, ea, shifted-law (dequantShift ten) d n
 
 -- ---- samples
 
-level-at : (level : ℤ) (v : List ℤ) (i : ℕ) → i < 64 → lane (levelOf level v) i ≡ addsOf (lane v i) level
-unfolding levelOf
+level-at : (level : ℤ) (v : List ℤ) (i : ℕ) → i < 64 → lane (levelAddedOf level v) i ≡ addsOf (lane v i) level
+unfolding levelAddedOf
 level-at level v i h = getD-tab 64 (λ i. addsOf (lane v i) level) i (pos 0) h
 
 -- the samples of a block's numbers
-pub store-law : (ten : Bool) (stride : ℕ) (level : ℤ) (v : List ℤ) (l : List ℕ) {p : List ℕ} → p ≡ samplesOf ten (levelOf level v)
+pub store-law : (ten : Bool) (stride : ℕ) (level : ℤ) (v : List ℤ) (l : List ℕ) {p : List ℕ} → p ≡ samplesOf ten (levelAddedOf level v)
     → storeBlock stride (sampleAt p) l ≡ storeBlock stride (numberSample ten level v) l
 unfolding numberSample
 store-law ten stride level v l e =
     rw e
-    (store-ext stride (sampleAt (samplesOf ten (levelOf level v))) (λ i. numberSample ten level v i) l
-    (λ i h. sample-at ten (levelOf level v) i h ∙ ap (sampleOf ten) (level-at level v i h)))
+    (store-ext stride (sampleAt (samplesOf ten (levelAddedOf level v))) (λ i. numberSample ten level v i) l
+    (λ i h. sample-at ten (levelAddedOf level v) i h ∙ ap (sampleOf ten) (level-at level v i h)))
 
 -- the numbers' samples are the block's
 pub block-law : (ten : Bool) (stride preset : ℕ) (level : ℤ) (nat : List ℤ) (l : List ℕ) {v : List ℤ} → v ≡ inverseOf ten (pos 0) (dequantiseOf ten preset nat)
@@ -61,7 +61,7 @@ block-law ten stride preset level nat l {v} e =
     store-ext stride (λ i. numberSample ten level v i) (λ i. blockSample ten preset level nat i) l
     (λ i h.
     ap (sampleOf ten)
-    (sym (level-at level v i h) ∙ ap (λ (w : List ℤ). lane w i) (ap (levelOf level) e ∙ level-law ten level (dequantiseOf ten preset nat))))
+    (sym (level-at level v i h) ∙ ap (λ (w : List ℤ). lane w i) (ap (levelAddedOf level) e ∙ level-law ten level (dequantiseOf ten preset nat))))
 
 pub block-sample-lt : (ten : Bool) (preset : ℕ) (level : ℤ) (nat : List ℤ) (i : ℕ) → blockSample ten preset level nat i < sampleTop ten
 unfolding blockSample

@@ -7,14 +7,14 @@ use Rattle.tables.specs.Divisor.{divisor}
 use Rattle.tables.specs.Reciprocal.{correctionOf, reciprocalOf, scaleOf}
 
 -- "For each divisor there are three numbers (correction, reciprocal, scale)": kinds 0, 1, 2
-unfoldable pub numberOf : ℕ → ℕ → ℕ
-numberOf zero d = correctionOf d
-numberOf (suc zero) d = reciprocalOf d
-numberOf (suc (suc kind)) d = scaleOf d
+unfoldable pub numberFor : ℕ → ℕ → ℕ
+numberFor zero d = correctionOf d
+numberFor (suc zero) d = reciprocalOf d
+numberFor (suc (suc kind)) d = scaleOf d
 
 -- a number by preset and place: the one way in which definitions look one up
 unfoldable pub numberAt : ℕ → ℕ → ℕ → ℕ
-numberAt kind preset place = numberOf kind (divisor preset place)
+numberAt kind preset place = numberFor kind (divisor preset place)
 
 abbrev pub correctionAt : ℕ → ℕ → ℕ
 correctionAt preset place = numberAt 0 preset place
