@@ -1,5 +1,4 @@
-// One block painted into its plane (write_block of slice.rs). paint_at is given the whole rows and the block's corner, and lends the
-// block writers of dct::inverse (store8, store16, broadcast_dc8) the rows from that corner on.
+// The painters of one block (write_block of slice.rs): each receives the rows from the block's corner on.
 // The divisors are tables::decode_numbers(preset)'s: a caller makes them once for a plane.
 ghost use mathlib.Core.Path.{_≡_};
 ghost use mathlib.Core.Bool.{not};
