@@ -1,5 +1,6 @@
 // Replays the Rust's answers. data/ has a file for each part, of records of one length (oracle/ANSWERS.md); each record's answer
 // is computed anew and compared, and the counts of each part are written.
+mod arguments;
 mod bits;
 mod built;
 mod dct;

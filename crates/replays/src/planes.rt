@@ -1,7 +1,11 @@
 // The Rust's coding calls on small planes and slices. A record of 552 bytes (oracle/ANSWERS.md): the call's arguments, its answer,
 // the streams that it wrote, and samples, which are repeated until 512 are there.
 ghost use Prim.Native.Nat.{_<_};
-use encoder::CodeAnswer;
+use crate::arguments::four;
+use crate::arguments::positions;
+use crate::arguments::settings;
+use crate::arguments::shape;
+use questions::answers::CodeAnswer;
 use replay::Asked;
 use replay::Record;
 use replay::answered;
@@ -50,74 +54,32 @@ fn samples10(b: &Record) -> [u16; 512] {
 
 // The call on an 8-bit plane.
 fn encode_plane8(c: Asked, rows: &[u8], dcs: &mut [u8], acs: &mut [u8]) -> CodeAnswer {
-    encoder::encode_plane8(
-        part(rows, c.starts[0], c.counts[0]),
-        c.strides[0],
-        c.which,
-        c.preset,
-        c.shift,
-        dcs,
-        c.d,
-        acs,
-        c.a,
-    )
+    let p = part(rows, c.starts[0], c.counts[0]);
+    encoder::eight::encode_plane(p, shape(c), settings(c), dcs, acs, positions(c))
 }
 
 // The call on a 10-bit plane.
 fn encode_plane10(c: Asked, rows: &[u16], dcs: &mut [u8], acs: &mut [u8]) -> CodeAnswer {
-    encoder::encode_plane10(
-        part16(rows, c.starts[0], c.counts[0]),
-        c.strides[0],
-        c.which,
-        c.preset,
-        c.shift,
-        dcs,
-        c.d,
-        acs,
-        c.a,
-    )
+    let p = part16(rows, c.starts[0], c.counts[0]);
+    encoder::ten::encode_plane(p, shape(c), settings(c), dcs, acs, positions(c))
 }
 
 // The call on an 8-bit slice.
 fn encode_slice8(c: Asked, rows: &[u8], dcs: &mut [u8], acs: &mut [u8]) -> CodeAnswer {
-    encoder::encode_slice8(
-        part(rows, c.starts[0], c.counts[0]),
-        c.strides[0],
-        part(rows, c.starts[1], c.counts[1]),
-        c.strides[1],
-        part(rows, c.starts[2], c.counts[2]),
-        c.strides[2],
-        part(rows, c.starts[3], c.counts[3]),
-        c.strides[3],
-        c.which,
-        c.preset,
-        c.shift,
-        dcs,
-        c.d,
-        acs,
-        c.a,
-    )
+    let p0 = part(rows, c.starts[0], c.counts[0]);
+    let p1 = part(rows, c.starts[1], c.counts[1]);
+    let p2 = part(rows, c.starts[2], c.counts[2]);
+    let p3 = part(rows, c.starts[3], c.counts[3]);
+    encoder::eight::encode_slice(p0, p1, p2, p3, four(c), settings(c), dcs, acs, positions(c))
 }
 
 // The call on a 10-bit slice.
 fn encode_slice10(c: Asked, rows: &[u16], dcs: &mut [u8], acs: &mut [u8]) -> CodeAnswer {
-    encoder::encode_slice10(
-        part16(rows, c.starts[0], c.counts[0]),
-        c.strides[0],
-        part16(rows, c.starts[1], c.counts[1]),
-        c.strides[1],
-        part16(rows, c.starts[2], c.counts[2]),
-        c.strides[2],
-        part16(rows, c.starts[3], c.counts[3]),
-        c.strides[3],
-        c.which,
-        c.preset,
-        c.shift,
-        dcs,
-        c.d,
-        acs,
-        c.a,
-    )
+    let p0 = part16(rows, c.starts[0], c.counts[0]);
+    let p1 = part16(rows, c.starts[1], c.counts[1]);
+    let p2 = part16(rows, c.starts[2], c.counts[2]);
+    let p3 = part16(rows, c.starts[3], c.counts[3]);
+    encoder::ten::encode_slice(p0, p1, p2, p3, four(c), settings(c), dcs, acs, positions(c))
 }
 
 // A call on 8-bit rows.

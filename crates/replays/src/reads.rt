@@ -1,9 +1,14 @@
 // The Rust's reading calls on small planes and slices, previews and block reports. A record of 808 bytes (oracle/ANSWERS.md):
 // the call's arguments, its answer, both streams, and what the rows hold after the call.
 ghost use Prim.Native.Nat.{_<_};
+use crate::arguments::four;
+use crate::arguments::positions;
+use crate::arguments::settings;
+use crate::arguments::shape;
+use acread::through::PlaneEnd;
 use ask::limits::AC_READ_MAX;
 use ask::limits::DC_READ_MAX;
-use decoder::ReadAnswer;
+use questions::answers::ReadAnswer;
 use replay::Asked;
 use replay::Record;
 use replay::answered;
@@ -37,33 +42,15 @@ fn same_answer(b: &[u8], r: ReadAnswer) -> bool {
 
 // The call on an 8-bit plane.
 fn decode_plane8(b: &[u8], c: Asked, dc: &[u8], ac: &[u8], rows: &mut [u8]) -> bool {
-    let r = decoder::decode_plane8(
-        cut(rows, c.counts[0]),
-        c.strides[0],
-        c.which,
-        c.preset,
-        c.shift,
-        dc,
-        c.d,
-        ac,
-        c.a,
-    );
+    let p = cut(rows, c.counts[0]);
+    let r = decoder::eight::decode_plane(p, shape(c), settings(c), dc, ac, positions(c));
     same_answer(b, r)
 }
 
 // The call on a 10-bit plane.
 fn decode_plane10(b: &[u8], c: Asked, dc: &[u8], ac: &[u8], rows: &mut [u16]) -> bool {
-    let r = decoder::decode_plane10(
-        cut16(rows, c.counts[0]),
-        c.strides[0],
-        c.which,
-        c.preset,
-        c.shift,
-        dc,
-        c.d,
-        ac,
-        c.a,
-    );
+    let p = cut16(rows, c.counts[0]);
+    let r = decoder::ten::decode_plane(p, shape(c), settings(c), dc, ac, positions(c));
     same_answer(b, r)
 }
 
@@ -78,22 +65,20 @@ fn decode_slice8(
     p2: &mut [u8],
     p3: &mut [u8],
 ) -> bool {
-    let r = decoder::decode_slice8(
-        cut(p0, c.counts[0]),
-        c.strides[0],
-        cut(p1, c.counts[1]),
-        c.strides[1],
-        cut(p2, c.counts[2]),
-        c.strides[2],
-        cut(p3, c.counts[3]),
-        c.strides[3],
-        c.which,
-        c.preset,
-        c.shift,
+    let q0 = cut(p0, c.counts[0]);
+    let q1 = cut(p1, c.counts[1]);
+    let q2 = cut(p2, c.counts[2]);
+    let q3 = cut(p3, c.counts[3]);
+    let r = decoder::eight::decode_slice(
+        q0,
+        q1,
+        q2,
+        q3,
+        four(c),
+        settings(c),
         dc,
-        c.d,
         ac,
-        c.a,
+        positions(c),
     );
     same_answer(b, r)
 }
@@ -109,48 +94,29 @@ fn decode_slice10(
     p2: &mut [u16],
     p3: &mut [u16],
 ) -> bool {
-    let r = decoder::decode_slice10(
-        cut16(p0, c.counts[0]),
-        c.strides[0],
-        cut16(p1, c.counts[1]),
-        c.strides[1],
-        cut16(p2, c.counts[2]),
-        c.strides[2],
-        cut16(p3, c.counts[3]),
-        c.strides[3],
-        c.which,
-        c.preset,
-        c.shift,
-        dc,
-        c.d,
-        ac,
-        c.a,
-    );
+    let q0 = cut16(p0, c.counts[0]);
+    let q1 = cut16(p1, c.counts[1]);
+    let q2 = cut16(p2, c.counts[2]);
+    let q3 = cut16(p3, c.counts[3]);
+    let r = decoder::ten::decode_slice(q0, q1, q2, q3, four(c), settings(c), dc, ac, positions(c));
     same_answer(b, r)
 }
 
 // The preview, into the first two planes' rows.
 fn preview_of(b: &[u8], c: Asked, dc: &[u8], upper: &mut [u8], lower: &mut [u8]) -> bool {
-    let r = preview::preview(
-        c.shift,
-        c.which,
-        c.strides[0],
-        cut(upper, c.counts[0]),
-        cut(lower, c.counts[1]),
-        dc,
-        c.d,
-    );
-    match r {
-        preview::PlaneEnd::Refused(x) => answered(b, x, c.d, c.a),
-        preview::PlaneEnd::At(e) => answered(b, 0, e, c.a),
+    let above = cut(upper, c.counts[0]);
+    let below = cut(lower, c.counts[1]);
+    match preview::preview(c.shift, shape(c), above, below, dc, c.d) {
+        PlaneEnd::Refused(x) => answered(b, x, c.d, c.a),
+        PlaneEnd::At(e) => answered(b, 0, e, c.a),
     }
 }
 
 // The block report, into the first plane's rows.
 fn block_report(b: &[u8], c: Asked, ac: &[u8], rows: &mut [u8]) -> bool {
     match preview::report::block_report(c.strides[0], cut(rows, c.counts[0]), ac, c.a) {
-        acread::through::PlaneEnd::Refused(x) => answered(b, x, c.d, c.a),
-        acread::through::PlaneEnd::At(e) => answered(b, 0, c.d, e),
+        PlaneEnd::Refused(x) => answered(b, x, c.d, c.a),
+        PlaneEnd::At(e) => answered(b, 0, c.d, e),
     }
 }
 
