@@ -6,6 +6,7 @@ use Prim.Native.Nat.{ℕ, zero, suc, _+_, _-_, _≤_, _<_}
 use native.Mathlib.Omega.{arith}
 use lib.ListN.{length, take, drop, length-append}
 use lib.Seq.{length-take-le, take-append-seam, drop-at}
+use Rattle.ask.specs.Limits.{shiftMax}
 use Rattle.ask.specs.Ask.{Answer, refused, accepted, andThen}
 use Rattle.bits.specs.Lay.{lay}
 use Rattle.parser.specs.Frame.{viewOf}
@@ -32,7 +33,7 @@ after (accepted b) at read {f} e = let g : frameIn at b ≡ f = cc in ap read g
 
 module _ (w h : ℕ) (interlaced : Bool) (quality shift : ℕ) where
   -- the part of the buffer that the builder's calls put is `write`'s frame
-  pub frame-built : (dc ac : List (List ℕ)) (out : List ℕ) (at : ℕ) → shift ≤ 15 → Complete w h dc ac [] → at + length (writeOf h interlaced quality shift dc ac) ≤ length out
+  pub frame-built : (dc ac : List (List ℕ)) (out : List ℕ) (at : ℕ) → shift ≤ shiftMax → Complete w h dc ac [] → at + length (writeOf h interlaced quality shift dc ac) ≤ length out
       → andThen (buildOf w h interlaced quality shift dc ac out at) (λ b. accepted (frameIn at b)) ≡ accepted (writeOf h interlaced quality shift dc ac)
   unfolding writeOf
   frame-built [] ac out at small p r = absurd (a-slice w h (p .size) (p .dcAll))
@@ -56,7 +57,7 @@ module _ (w h : ℕ) (interlaced : Bool) (quality shift : ℕ) where
       (ap accepted (frame-is (afterAll mid (a ∷ rest)) out at (head ++ (x ++ y)) (omega arith) m))
 
   -- header and streams put, then the view of a slice read: the stream that was put, or 14
-  pub built-back : (dc ac : List (List ℕ)) (out : List ℕ) (at : ℕ) → shift ≤ 15 → Complete w h dc ac [] → at + length (writeOf h interlaced quality shift dc ac) ≤ length out → (kind : Bool) (slice : ℕ)
+  pub built-back : (dc ac : List (List ℕ)) (out : List ℕ) (at : ℕ) → shift ≤ shiftMax → Complete w h dc ac [] → at + length (writeOf h interlaced quality shift dc ac) ≤ length out → (kind : Bool) (slice : ℕ)
       → andThen (buildOf w h interlaced quality shift dc ac out at) (λ b. let f = frameIn at b in bytesOf f (viewOf w h f kind slice)) ≡ streamAt (ofKind kind dc ac) slice
   built-back dc ac out at small p r kind slice =
       after (buildOf w h interlaced quality shift dc ac out at) at (λ (f : List ℕ). bytesOf f (viewOf w h f kind slice)) (frame-built dc ac out at small p r)

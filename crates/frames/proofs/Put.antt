@@ -9,6 +9,7 @@ use native.Mathlib.Omega.{arith}
 use lib.Dec.{leb, ltb, eqb}
 use lib.ListN.{length, length-append}
 use borrow.Author.Tests.{lt-ltb, le-leb, eq-eqb, ne-eqb}
+use Rattle.ask.specs.Limits.{shiftMax}
 use Rattle.ask.specs.Ask.{Answer, refused, accepted, andThen, firstNo}
 use Rattle.bits.specs.Lay.{lay}
 use Rattle.bits.proofs.LayLaw.{lay-none, lay-lay, lay-length}
@@ -118,7 +119,7 @@ unfolding headerBytes
 header-length interlaced quality zero count = refl
 header-length interlaced quality (suc s) count = refl
 
-module _ (w h : ℕ) (interlaced : Bool) (quality shift : ℕ) (size : sizeOk w h ≡ true) (small : shift ≤ 15) (s : List ℕ) (ss : List (List ℕ)) (count : length (s ∷ ss) ≡ sliceCount h) (dcs : Within (maxDcLen w) (s ∷ ss)) (out : List ℕ) (at : ℕ) where
+module _ (w h : ℕ) (interlaced : Bool) (quality shift : ℕ) (size : sizeOk w h ≡ true) (small : shift ≤ shiftMax) (s : List ℕ) (ss : List (List ℕ)) (count : length (s ∷ ss) ≡ sliceCount h) (dcs : Within (maxDcLen w) (s ∷ ss)) (out : List ℕ) (at : ℕ) where
   abbrev head : List ℕ
   head = headerBytes interlaced quality shift (countByte h)
 

@@ -5,6 +5,7 @@ use mathlib.Core.List.{List, [], _∷_}
 use Prim.Native.Nat.{ℕ, zero, suc, _-_, _≤_}
 use lib.ListN.{length, take, drop}
 use Rattle.ask.specs.Ask.{Answer, refused, accepted, andThen}
+use Rattle.ask.specs.Numbers.{noTurn}
 use Rattle.layout.specs.Geometry.{sizeOk, sliceCount, maxDcLen, maxAcLen}
 use Rattle.parser.specs.Frame.{View}
 use Rattle.builder.specs.Build.{Build, Built, headerOf}
@@ -46,7 +47,7 @@ ofKind true dc ac = ac
 
 -- the stream of a slice; question 14: "Slice number below the count .., AC there when wanted"
 abbrev pub streamAt : List (List ℕ) → ℕ → Answer (List ℕ)
-streamAt [] slice = refused 14
+streamAt [] slice = refused noTurn
 streamAt (s ∷ ss) zero = accepted s
 streamAt (s ∷ ss) (suc slice) = streamAt ss slice
 
