@@ -54,10 +54,12 @@ pub fn layout_out(
     max_dc_len: &mut usize,
     max_ac_len: &mut usize,
 ) -> u32
-    ensures { λ r. ⌜ handed r (layoutPlaces (now («aligned_height» .exit)) (now (slices .exit)) (now (luma .exit)) (now (chroma .exit))
+    ensures { λ r. ⌜ handed r
+        (layoutPlaces (now («aligned_height» .exit)) (now (slices .exit)) (now (luma .exit)) (now (chroma .exit))
         (now («max_dc_len» .exit)) (now («max_ac_len» .exit)))
-        ≡ handedBy (layoutSays answer) (layoutPlaces (now («aligned_height» .entry)) (now (slices .entry)) (now (luma .entry))
-        (now (chroma .entry)) (now («max_dc_len» .entry)) (now («max_ac_len» .entry))) layoutParts ⌝ }
+        ≡ handedBy (layoutSays answer) layoutParts
+        (layoutPlaces (now («aligned_height» .entry)) (now (slices .entry)) (now (luma .entry)) (now (chroma .entry))
+        (now («max_dc_len» .entry)) (now («max_ac_len» .entry))) ⌝ }
 {
     match answer {
         LayoutAnswer::Refused(x) => x,
@@ -105,10 +107,10 @@ pub fn frame_out(
     header_len: &mut usize,
     ac: &mut u32,
 ) -> u32
-    ensures { λ r. ⌜ handed r (framePlaces (now (interlaced .exit)) (now (quality .exit)) (now («dc_shift» .exit))
-        (now («header_len» .exit)) (now (ac .exit)))
-        ≡ handedBy (frameSays answer) (framePlaces (now (interlaced .entry)) (now (quality .entry)) (now («dc_shift» .entry))
-        (now («header_len» .entry)) (now (ac .entry))) frameParts ⌝ }
+    ensures { λ r. ⌜ handed r
+        (framePlaces (now (interlaced .exit)) (now (quality .exit)) (now («dc_shift» .exit)) (now («header_len» .exit)) (now (ac .exit)))
+        ≡ handedBy (frameSays answer) frameParts
+        (framePlaces (now (interlaced .entry)) (now (quality .entry)) (now («dc_shift» .entry)) (now («header_len» .entry)) (now (ac .entry))) ⌝ }
 {
     match answer {
         FrameAnswer::Refused(x) => x,
@@ -125,7 +127,7 @@ pub fn frame_out(
 
 // Of a slice's stream: where it lies in the frame.
 pub fn view_out(answer: ViewAnswer, offset: &mut usize, len: &mut usize) -> u32
-    ensures { λ r. ⌜ handed r (viewPlaces (now (offset .exit)) (now (len .exit))) ≡ handedBy (viewSays answer) noPart viewParts ⌝ }
+    ensures { λ r. ⌜ handed r (viewPlaces (now (offset .exit)) (now (len .exit))) ≡ handedBy (viewSays answer) viewParts noPart ⌝ }
 {
     match answer {
         ViewAnswer::Refused(x) => {
@@ -151,11 +153,12 @@ pub fn header_out(
     next: &mut usize,
     at: &mut usize,
 ) -> u32
-    ensures { λ r. ⌜ ((out out' : List ℕ) (a : Answer Built) → HeaderCall answer out out' a
-        → handed r (startPlaces out' (now (slices .exit)) (now («max_dc_len» .exit)) (now («max_ac_len» .exit))
+    ensures { λ r. ⌜ ((out out' : List ℕ) (a : Answer Built) → HeaderCall answer out out' a → handed r
+        (startPlaces out' (now (slices .exit)) (now («max_dc_len» .exit)) (now («max_ac_len» .exit))
         (now («ac_turn» .exit)) (now (next .exit)) (now (at .exit)))
-        ≡ handedBy a (startPlaces out (now (slices .entry)) (now («max_dc_len» .entry)) (now («max_ac_len» .entry))
-        (now («ac_turn» .entry)) (now (next .entry)) (now (at .entry))) startParts) ⌝ }
+        ≡ handedBy a startParts
+        (startPlaces out (now (slices .entry)) (now («max_dc_len» .entry)) (now («max_ac_len» .entry))
+        (now («ac_turn» .entry)) (now (next .entry)) (now (at .entry)))) ⌝ }
 {
     match answer {
         HeaderAnswer::Refused(x) => x,
@@ -173,9 +176,10 @@ pub fn header_out(
 
 // Of a stream that was put, or not: what moves in the builder's state.
 pub fn stream_out(answer: StreamAnswer, ac_turn: &mut u32, next: &mut usize, at: &mut usize) -> u32
-    ensures { λ r. ⌜ ((was : Builder) (out out' : List ℕ) (a : Answer Built) → StreamCall was answer out out' a
-        → handed r (putPlaces out' (now («ac_turn» .exit)) (now (next .exit)) (now (at .exit)))
-        ≡ handedBy a (putPlaces out (now («ac_turn» .entry)) (now (next .entry)) (now (at .entry))) putParts) ⌝ }
+    ensures { λ r. ⌜ ((was : Builder) (out out' : List ℕ) (a : Answer Built) → StreamCall was answer out out' a → handed r
+        (putPlaces out' (now («ac_turn» .exit)) (now (next .exit)) (now (at .exit)))
+        ≡ handedBy a putParts
+        (putPlaces out (now («ac_turn» .entry)) (now (next .entry)) (now (at .entry)))) ⌝ }
 {
     match answer {
         StreamAnswer::Refused(x, _) => x,

@@ -23,8 +23,8 @@ abbrev pub handed : {P : Type 0} → ℕ → P → Handed P
 handed n places = record { number = n; places = places }
 
 -- by its answer: the parts of it, or what stood there
-abbrev pub handedBy : {A P : Type 0} → Answer A → P → (A → P) → Handed P
-handedBy a was parts = handed (numberIn a) (left a was parts)
+abbrev pub handedBy : {A P : Type 0} → Answer A → (A → P) → P → Handed P
+handedBy a parts was = handed (numberIn a) (left a was parts)
 
 -- truth values of C: any number but 0 is true
 abbrev pub isOn : ℕ → Bool
