@@ -10,7 +10,7 @@ use Rattle.ask.specs.Limits.{shiftMax}
 use Rattle.ask.specs.Ask.{Answer, refused, accepted, andThen}
 use Rattle.bits.specs.Lay.{lay}
 use Rattle.parser.specs.Frame.{viewOf}
-use Rattle.builder.specs.Build.{Build, Built, headerLength, headerBytes, countByte, started}
+use Rattle.builder.specs.Build.{Build, Built, headerSize, headerBytes, countByte, started}
 use Rattle.builder.specs.streams.Put.{allStreams, writeOf}
 use Rattle.frames.specs.Whole.{buildOf, Complete, ofKind, streamAt, bytesOf, frameIn}
 use Rattle.frames.proofs.Put.{header-length, afterAll, all-at, builds, builds-dc}
@@ -40,7 +40,7 @@ module _ (w h : ℕ) (interlaced : Bool) (quality shift : ℕ) where
   frame-built (s ∷ ss) [] out at small p r =
       let head = headerBytes interlaced quality shift (countByte h) in
       let x = allStreams (s ∷ ss) in
-      let start = started w h (at + headerLength shift) in
+      let start = started w h (at + headerSize shift) in
       let m : afterAll start (s ∷ ss) .at ≡ at + length (head ++ (x ++ allStreams [])) =
       all-at start (s ∷ ss) ∙ omega (arith, header-length interlaced quality shift (countByte h), length-append head (x ++ allStreams []), length-append x (allStreams []), ap length none) in
       rw (builds-dc w h interlaced quality shift (p .size) small s ss (p .dcAll) (p .dcFit) out at r)
@@ -49,7 +49,7 @@ module _ (w h : ℕ) (interlaced : Bool) (quality shift : ℕ) where
       let head = headerBytes interlaced quality shift (countByte h) in
       let x = allStreams (s ∷ ss) in
       let y = allStreams (a ∷ rest) in
-      let start = started w h (at + headerLength shift) in
+      let start = started w h (at + headerSize shift) in
       let mid = afterAll start (s ∷ ss) in
       let m : afterAll mid (a ∷ rest) .at ≡ at + length (head ++ (x ++ y)) =
       all-at mid (a ∷ rest) ∙ omega (arith, all-at start (s ∷ ss), header-length interlaced quality shift (countByte h), length-append head (x ++ y), length-append x y) in

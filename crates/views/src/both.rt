@@ -4,7 +4,7 @@ use parser::streams::Place;
 ghost use Prim.Native.Nat.{_*_, _≤_};
 ghost use lib.ListN.{length};
 ghost use Rattle.layout.specs.Geometry.{sliceCount};
-ghost use Rattle.views.specs.both.Views.{walkedSays, Tabled, Walkable, Holds};
+ghost use Rattle.views.specs.both.Views.{walkedSays, Tabled, Walkable, TableHeld};
 
 // A frame of up to so many rows has a small place to hold its table: four numbers for each of its slices.
 const SMALL_HEIGHT: usize = 1088;
@@ -22,7 +22,7 @@ pub enum Walked {
 
 // Walks over all streams of a frame whose header is legal. What stands in the table is held.
 fn walk(width: usize, height: usize, frame: &[u8], table: &mut [u32], held: &[u32]) -> Walked
-    requires { ⌜ (Walkable width height (now frame) (now table)) × (Holds height (now table) (now held)) ⌝ }
+    requires { ⌜ (Walkable width height (now frame) (now table)) × (TableHeld height (now table) (now held)) ⌝ }
     ensures { λ r. ⌜ Tabled width height (now (frame .entry)) (now (table .entry)) (now (table .exit)) (walkedSays height (now (frame .entry)) r) ⌝ }
 {
     let slices = layout::slice_count(height);

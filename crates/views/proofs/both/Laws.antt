@@ -23,7 +23,7 @@ use Rattle.views.specs.walk.Walk.{walkLeft, Walks}
 use Rattle.views.proofs.walk.Laws.{views-length, views-same, over, as-before}
 use Rattle.views.proofs.walk.Walk.{one-within}
 use Rattle.views.specs.both.Table.{allViews, tableLeft}
-use Rattle.views.specs.both.Views.{Holds}
+use Rattle.views.specs.both.Views.{TableHeld}
 
 -- ---- where the streams end at most
 pub streams-short : (n limit : ℕ) (f : List ℕ) (p : ℕ) {q : ℕ} → limit ≤ acReadMax → streams n limit f p ≡ accepted q → q ≤ p + n * (acReadMax + 4)
@@ -86,7 +86,7 @@ pub none-left : (h : ℕ) (t : List ℕ) {slices : ℕ} {x : List ℕ} → slice
 none-left h t n e = rw n at e
 
 -- numbers held by copying them
-pub holding : (h : ℕ) (table place : List ℕ) {n : ℕ} {held : List ℕ} → 4 * sliceCount h ≤ n → n ≤ length place → n ≤ length table → held ≡ lay place 0 (take n table) → Holds h table held
+pub holding : (h : ℕ) (table place : List ℕ) {n : ℕ} {held : List ℕ} → 4 * sliceCount h ≤ n → n ≤ length place → n ≤ length table → held ≡ lay place 0 (take n table) → TableHeld h table held
 unfolding lay
 holding h table place {n} {held} r s u e =
     let l : length (take n table) ≡ n = length-take-le n table u in
@@ -98,7 +98,7 @@ holding h table place {n} {held} r s u e =
     }
 
 -- ---- what the walks leave
-module _ (w h : ℕ) (f : List ℕ) (yes : firstNo (headerQuestions w h f) ≡ 0) (table held : List ℕ) (r : 4 * sliceCount h ≤ length table) (kept : Holds h table held) where
+module _ (w h : ℕ) (f : List ℕ) (yes : firstNo (headerQuestions w h f) ≡ 0) (table held : List ℕ) (r : 4 * sliceCount h ≤ length table) (kept : TableHeld h table held) where
   -- a part of what is held, put back
   put-back : (m : ℕ) → m ≤ 4 * sliceCount h → lay table 0 (take m held) ≡ table
   put-back m k =
