@@ -37,7 +37,7 @@ pub record Build : Type 0 where
   pub next : ℕ
   pub at : ℕ
 
--- question 6: room behind `at` for n bytes more, in a buffer of so many
+-- question 6: room from `at` on for n bytes more, in a buffer of so many
 abbrev pub roomToWrite : ℕ → ℕ → ℕ → Question
 roomToWrite len at n = ask (leb (at + n) len) noRoom
 

@@ -50,7 +50,7 @@ fn shift_of(s: Shift) -> u32
     }
 }
 
-// Whether n bytes fit behind `at` in a buffer of len bytes. Compared by subtraction: no sum may overflow.
+// Whether n bytes fit from `at` on in a buffer of len bytes. Compared by subtraction: no sum may overflow.
 fn fits(len: usize, at: usize, n: usize) -> bool
     ensures { λ r. ⌜ r ≡ leb (at + n) len ⌝ }
 {

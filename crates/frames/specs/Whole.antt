@@ -27,7 +27,7 @@ abbrev pub Within : ℕ → List (List ℕ) → Type 0
 Within limit [] = Unit {0}
 Within limit (s ∷ ss) = (length s ≤ limit) × Within limit ss
 
--- "the AC streams of all slices or of none"; bytes may lie behind the last stream only where AC streams are there
+-- "the AC streams of all slices or of none"; bytes may lie after the last stream only where AC streams are there
 abbrev pub AllOrNone : ℕ → List (List ℕ) → List ℕ → Type 0
 AllOrNone h [] behind = behind ≡ []
 AllOrNone h (a ∷ rest) behind = length (a ∷ rest) ≡ sliceCount h
