@@ -1,4 +1,4 @@
--- `builder::header_number`: one question after the other, from the last to the first.
+-- `builder::start_number`: one question after the other, from the last to the first.
 use borrow.Author.Needs.{needs}
 use mathlib.Core.Path.{_≡_, _∙_, ap, ap₂}
 use mathlib.Core.Bool.{Bool}
@@ -6,12 +6,12 @@ use Prim.Native.Nat.{ℕ, _+_}
 use lib.Dec.{leb}
 use Rattle.ask.specs.Ask.{orElse, firstNo}
 use Rattle.ask.specs.Numbers.{noShift, noRoom, noSize}
-use Rattle.builder.specs.Build.{headerQuestions}
-use Rattle.builder.proofs.header_number.Statement.{statement}
-use Rattle.builder.proofs.header_number.Tie as tie
+use Rattle.builder.specs.Build.{startQuestions}
+use Rattle.builder.proofs.start_number.Statement.{statement}
+use Rattle.builder.proofs.start_number.Tie as tie
 
 returns : tie.Need-returns
-unfolding headerQuestions firstNo
+unfolding startQuestions firstNo
 returns c =
     let from-room = c .before in
     let from-size = from-room .before in
@@ -22,11 +22,11 @@ returns c =
     let a = shift .before .args in
     c .or-else3 .ensures
     ∙ ap₂ (λ (b : Bool) (n : ℕ). orElse b noShift n) (shift .shift-ok .ensures) (from-room .or-else2 .ensures
-    ∙ ap₂ (λ (b : Bool) (n : ℕ). orElse b noRoom n) (room .fits2 .ensures ∙ ap (λ (n : ℕ). leb (a .at + n) (a .len)) (long .header-length .ensures .0)) (from-size .or-else .ensures
+    ∙ ap₂ (λ (b : Bool) (n : ℕ). orElse b noRoom n) (room .fits2 .ensures ∙ ap (λ (n : ℕ). leb (a .at + n) (a .len)) (long .header-size .ensures .0)) (from-size .or-else .ensures
     ∙ ap (λ (b : Bool). orElse b noSize 0) (size .size-ok .ensures)))
 
-pub header-number-spec : {M : Type 1} → statement M
-header-number-spec =
+pub start-number-spec : {M : Type 1} → statement M
+start-number-spec =
     tie.close
     (tie.spec
     (λ c κs. search needs)
