@@ -1,5 +1,5 @@
 // The block writers: each receives the rows from the block's corner on and stores 8 by 8 samples at the stride.
-pub mod flats;
+pub mod flat_sample;
 pub mod row;
 
 ghost use mathlib.Core.Path.{_≡_};
@@ -8,7 +8,7 @@ ghost use lib.ListN.{length};
 ghost use Rattle.ask.specs.Limits.{strideMax};
 ghost use Rattle.paint.specs.Paint.{storeBlock, sampleAt};
 ghost use Rattle.paint.specs.Samples.{flatSample};
-use crate::flats::flat;
+use crate::flat_sample::flat;
 use crate::row::put8;
 use crate::row::put16;
 
