@@ -1,8 +1,8 @@
 /* VMX planes, slice streams and frames.
  *
  * Link with libvmx.a (rt staticlib vmx). Every call is proved to give the answer that docs/PROMISES.md names, on every
- * argument; no call allocates, keeps a pointer or has state of its own. A call takes less than 16 KiB of stack (measured, and
- * tested by bindings/rust/tests/stack.rs).
+ * argument; no call allocates, keeps a pointer or has state of its own. A call takes less than 16 KiB of stack
+ * (measured, and tested by bindings/rust/tests/stack.rs).
  *
  * A call that returns uint32_t under "number" returns 0 where it is accepted, else the number of the first question of
  * the list below that is answered no. A refused call leaves all memory that it was lent as it was, except that a part
@@ -31,7 +31,7 @@ extern "C" {
 #define VMX_NO_ROWS 5       /* rows, or a table, long enough? (shown rows: up to the slice's end in both pictures) */
 #define VMX_NO_ROOM 6       /* room behind the start for the size call's lengths (builder: for what it writes)? */
 #define VMX_NO_START 7      /* starts at most 16,777,215, streams read within 245,760 (DC) and 430,080 (AC) bytes? */
-#define VMX_NO_CODE 8       /* at most 54 zeros behind the head of every code reached? */
+#define VMX_NO_CODE 8       /* at most 54 zeros after the head of every code reached? */
 #define VMX_NO_SIZE 9       /* width even, 16 to 7,680, height 16 to 4,320? */
 #define VMX_NO_BYTES 10     /* five bytes there, each length and stream whole? */
 #define VMX_NO_FORMAT 11    /* first byte 1, 2 or 3? */
@@ -41,16 +41,16 @@ extern "C" {
 
 /* ---- Planes
  *
- * A plane is 16 rows of `stride` samples, one row behind the other: rows_len is at least 16 * stride, and what lies behind
+ * A plane is 16 rows of `stride` samples, one row after the other: rows_len is at least 16 * stride, and what comes after
  * is neither looked at nor changed. Its place says which plane of a picture it is: 0 luma, 1 and 2 chroma, 3 alpha.
  * Samples are uint8_t at 8 bits; at 10 bits they are uint16_t, the ten bits on top: the low six bits do not count when
  * a plane is coded and are 0 when it is read.
  *
  * dc_at and ac_at, in: the byte at which the plane's stream begins in the buffer. Out, where the call is accepted: the
- * byte behind it, so that the next plane goes on there. Refused: as they were. */
+ * byte after it, so that the next plane goes on there. Refused: as they were. */
 
 /* Codes a plane into both buffers: the DC stream from *dc_at on, the AC stream from *ac_at on. preset is 0 to 24
- * (vmx_quality_preset), shift (0 to 15) the DC shift of the frame. There must be room for vmx_plane_size's lengths behind
+ * (vmx_quality_preset), shift (0 to 15) the DC shift of the frame. There must be room for vmx_plane_size's lengths after
  * the positions; a stream is mostly shorter, and no other byte is changed.
  * Number: 1 to 7. Refused: both buffers and both positions stay as they were. */
 uint32_t vmx_encode_plane8(const uint8_t *rows, size_t rows_len, size_t stride, size_t place, size_t preset,
@@ -60,7 +60,7 @@ uint32_t vmx_encode_plane10(const uint16_t *rows, size_t rows_len, size_t stride
                             uint32_t shift, uint8_t *dc, size_t dc_len, size_t *dc_at, uint8_t *ac, size_t ac_len,
                             size_t *ac_at);
 
-/* Codes the first `count` (1 to 4) of four planes, at places 0 to 3, their streams one behind the other. A question is put
+/* Codes the first `count` (1 to 4) of four planes, at places 0 to 3, their streams one after the other. A question is put
  * over all these planes before the next one; there must be room for vmx_slice_size's lengths. Planes from `count` on are
  * neither asked about nor read: their length may be 0.
  * Number: 1 to 7. Refused: both buffers and both positions stay as they were. */
@@ -73,7 +73,7 @@ uint32_t vmx_encode_slice10(const uint16_t *p0, size_t p0_len, size_t stride0, c
                             size_t p3_len, size_t stride3, size_t count, size_t preset, uint32_t shift, uint8_t *dc,
                             size_t dc_len, size_t *dc_at, uint8_t *ac, size_t ac_len, size_t *ac_at);
 
-/* Reads a plane into its rows: 16 * stride samples, from the DC stream at *dc_at and the AC stream at *ac_at; samples behind
+/* Reads a plane into its rows: 16 * stride samples, from the DC stream at *dc_at and the AC stream at *ac_at; samples after
  * them stay. Past a stream's end every bit is one. Both streams are read through before a sample is stored.
  * Number: 1 to 5, 7, 8. Refused: every sample and both positions stay as they were. */
 uint32_t vmx_decode_plane8(uint8_t *rows, size_t rows_len, size_t stride, size_t place, size_t preset, uint32_t shift,
@@ -83,7 +83,7 @@ uint32_t vmx_decode_plane10(uint16_t *rows, size_t rows_len, size_t stride, size
                             const uint8_t *dc, size_t dc_len, size_t *dc_at, const uint8_t *ac, size_t ac_len,
                             size_t *ac_at);
 
-/* Reads the first `count` (1 to 4) of four planes, at places 0 to 3, from streams one behind the other. All of them are read
+/* Reads the first `count` (1 to 4) of four planes, at places 0 to 3, from streams one after the other. All of them are read
  * through before a sample of any is stored. Planes from `count` on are neither asked about nor changed: their length may
  * be 0.
  * Number: 1 to 5, 7, 8. Refused: every sample of every plane and both positions stay as they were. */
@@ -104,13 +104,13 @@ uint32_t vmx_slice_size(size_t count, size_t stride0, size_t stride1, size_t str
                         size_t *ac_len);
 
 /* The preview of a plane, one byte a block, from its DC stream alone: stride / 8 bytes into each of upper and lower (the
- * upper and the lower eight rows); bytes behind them stay. The stream is read through before a byte is stored.
+ * upper and the lower eight rows); bytes after them stay. The stream is read through before a byte is stored.
  * Number: 2, 3, 4, 5, 7, 8. Refused: both outputs and *dc_at stay as they were. */
-uint32_t vmx_preview(uint32_t shift, uint32_t place, size_t stride, uint8_t *upper, size_t upper_len, uint8_t *lower,
+uint32_t vmx_preview(uint32_t shift, size_t place, size_t stride, uint8_t *upper, size_t upper_len, uint8_t *lower,
                      size_t lower_len, const uint8_t *dc, size_t dc_len, size_t *dc_at);
 
 /* The block report of a plane, from its AC stream alone: stride / 4 bytes, one a block in coding order (left to right,
- * upper eight rows first), 1 where no AC symbol is read for the block, else 0; bytes behind them stay. The stream is
+ * upper eight rows first), 1 where no AC symbol is read for the block, else 0; bytes after them stay. The stream is
  * read through before a byte is stored.
  * Number: 4, 5, 7, 8. Refused: the output and *ac_at stay as they were. */
 uint32_t vmx_block_report(size_t stride, uint8_t *report, size_t report_len, const uint8_t *ac, size_t ac_len,
@@ -140,15 +140,15 @@ size_t vmx_preview_width(size_t width);
 size_t vmx_preview_height(size_t height, uint32_t interlaced);
 
 /* Puts all questions about a frame and says what its header holds: interlaced 1 or 0, quality and DC shift as stored,
- * the header's length in bytes, ac 1 if AC streams follow the DC streams, else 0. Bytes behind the last stream are
+ * the header's length in bytes, ac 1 if AC streams follow the DC streams, else 0. Bytes after the last stream are
  * ignored.
  * Number: 9, 10, 11, 2, 12, then stream by stream 10, 13, 10. */
 uint32_t vmx_parse(size_t width, size_t height, const uint8_t *frame, size_t frame_len, uint32_t *interlaced,
                    uint32_t *quality, uint32_t *dc_shift, size_t *header_len, uint32_t *ac);
 
 /* The same in one call, and where all streams of the frame lie: views[2 * i] and views[2 * i + 1] are offset and length of
- * the DC stream of slice i, views[2 * (slices + i)] and the number behind it those of its AC stream (0 and 0 where the
- * frame has none), for slices as vmx_layout says. So 4 * slices numbers are set, at most VMX_VIEWS; those behind them stay.
+ * the DC stream of slice i, views[2 * (slices + i)] and the number after it those of its AC stream (0 and 0 where the
+ * frame has none), for slices as vmx_layout says. So 4 * slices numbers are set, at most VMX_VIEWS; those after them stay.
  * Number: 5 (views_len at least 4 * slices?), then those of vmx_parse. Refused: all views stay as they were. */
 #define VMX_VIEWS 1080
 uint32_t vmx_streams(size_t width, size_t height, const uint8_t *frame, size_t frame_len, uint32_t *views,
@@ -161,9 +161,10 @@ uint32_t vmx_streams(size_t width, size_t height, const uint8_t *frame, size_t f
 uint32_t vmx_stream(size_t width, size_t height, const uint8_t *frame, size_t frame_len, uint32_t ac, size_t slice,
                     size_t *offset, size_t *len);
 
-/* Writes a frame's header into out from *at on, sets *at behind it, and sets the state in which the DC stream of slice 0
- * has its turn. interlaced is 0 or any other number; a DC shift of 0 gives the short header (3 bytes, else 5). The state
- * is six numbers that the caller holds: slices, max_dc_len, max_ac_len (never changed afterwards), ac_turn, next, at.
+/* Writes a frame's header into out from *at on, sets *at to the byte after it, and sets the state in which the DC
+ * stream of slice 0 has its turn. interlaced is 0 or any other number; a DC shift of 0 gives the short header (3 bytes,
+ * else 5). The state is six numbers that the caller holds: slices, max_dc_len, max_ac_len (never changed afterwards),
+ * ac_turn, next, at.
  * Number: 2, 6, 9. Refused: out and the six numbers stay as they were. */
 uint32_t vmx_frame_start(size_t width, size_t height, uint32_t interlaced, uint8_t quality, uint32_t dc_shift,
                          uint8_t *out, size_t out_len, size_t *slices, size_t *max_dc_len, size_t *max_ac_len,
@@ -171,7 +172,8 @@ uint32_t vmx_frame_start(size_t width, size_t height, uint32_t interlaced, uint8
 
 /* Puts the DC stream (ac 0) or the AC stream (ac any other number) of a slice, after its length, into out from *at on,
  * and sets the state for the next one. The DC streams of all slices have their turn in order, then the AC streams of
- * all slices. The frame lies from where vmx_frame_start began up to *at; it is complete after the last DC stream or after the last AC stream.
+ * all slices. The frame lies from where vmx_frame_start began up to *at; it is complete after the last DC stream or
+ * after the last AC stream.
  * Number: 6, 13, 14. Refused: out and the state stay as they were. */
 uint32_t vmx_frame_put(size_t slices, size_t max_dc_len, size_t max_ac_len, uint32_t ac, size_t slice,
                        const uint8_t *stream, size_t stream_len, uint8_t *out, size_t out_len, uint32_t *ac_turn,

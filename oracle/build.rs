@@ -1,7 +1,7 @@
 //! Tells the program whether the published sources were found, and links our
 //! static libraries, which `rt staticlib NAME` writes.
 
-const LIBRARIES: [&str; 4] = ["probe", "probe_blocks", "probe_pairs", "vmx"];
+const LIBRARIES: [&str; 3] = ["probe", "probe_pairs", "vmx"];
 
 fn main() {
     println!("cargo:rustc-check-cfg=cfg(published)");

@@ -18,6 +18,9 @@ static void check(int ok, const char *what) {
 /* 16 x 32 samples: two slices. */
 enum { WIDTH = 16, HEIGHT = 32, ROOM = 64 };
 
+/* 0 where it is cut to 32 bits. */
+static const size_t FAR = (size_t)1 << 32;
+
 static void geometry(void) {
     size_t aligned = 7, slices = 7, luma = 7, chroma = 7, dc = 7, ac = 7;
     check(vmx_layout(WIDTH, HEIGHT, &aligned, &slices, &luma, &chroma, &dc, &ac) == VMX_OK, "layout");
@@ -65,6 +68,8 @@ static void planes(void) {
           "shift 16");
     check(vmx_encode_plane8(rows, sizeof rows, 8, 4, 0, 0, dc, sizeof dc, &d, ac, sizeof ac, &a) == VMX_NO_PLANE,
           "place 4");
+    check(vmx_encode_plane8(rows, sizeof rows, 8, FAR, 0, 0, dc, sizeof dc, &d, ac, sizeof ac, &a) == VMX_NO_PLANE,
+          "place 2^32");
     check(vmx_encode_plane8(rows, sizeof rows, 12, 0, 0, 0, dc, sizeof dc, &d, ac, sizeof ac, &a) == VMX_NO_STRIDE,
           "stride 12");
     check(vmx_encode_plane8(rows, 127, 8, 0, 0, 0, dc, sizeof dc, &d, ac, sizeof ac, &a) == VMX_NO_ROWS, "127 samples");
@@ -84,7 +89,7 @@ static void planes(void) {
     check(d == 1 && dc[0] == 0xF0 && a == 2 && ac[0] == 0x80 && ac[1] == 0x80, "its streams");
 }
 
-/* Planes 0 and 1, each all zeros behind its level: their streams, one behind the other. */
+/* Planes 0 and 1, each all zeros once its level is taken off: their streams, one after the other. */
 static void slices(void) {
     static const uint8_t dc_want[] = {0xF0, 0xF0}, ac_want[] = {0x80, 0x80, 0x80, 0x80};
     uint8_t p0[128], p1[128], none[1] = {0}, dc[16], ac[788];
@@ -120,7 +125,7 @@ static void slices(void) {
 }
 
 static void previews(void) {
-    /* DC 1020 is 0 here, DC 1016 is 255; both behind a byte of something else */
+    /* DC 1020 is 0 here, DC 1016 is 255; both after a byte of something else */
     static const uint8_t dc[] = {0x55, 0x00, 0x3F, 0xCE, 0x00, 0x3F, 0x8E}, bad[] = {0, 0, 0, 0, 0, 0, 0},
                          ac[] = {0x80, 0x80};
     uint8_t upper[2] = {7, 7}, lower[2] = {7, 7}, report[3] = {7, 7, 7};
@@ -130,6 +135,8 @@ static void previews(void) {
     check(vmx_preview(0, 0, 8, upper, 2, lower, 2, dc, sizeof dc, &at) == VMX_OK, "preview of the next plane");
     check(at == 7 && upper[0] == 255 && lower[0] == 255, "DC 1016");
     at = 0;
+    check(vmx_preview(0, 4, 8, upper, 2, lower, 2, dc, sizeof dc, &at) == VMX_NO_PLANE, "place 4");
+    check(vmx_preview(0, FAR, 8, upper, 2, lower, 2, dc, sizeof dc, &at) == VMX_NO_PLANE, "place 2^32");
     check(vmx_preview(0, 0, 8, upper, 2, lower, 2, bad, sizeof bad, &at) == VMX_NO_CODE, "a bad code");
     check(vmx_preview(0, 0, 8, upper, 2, lower, 0, dc, sizeof dc, &at) == VMX_NO_ROWS, "no room for the lower row");
     check(at == 0 && upper[0] == 255 && lower[0] == 255, "nothing changed on refusal");
@@ -179,7 +186,7 @@ static void frame(void) {
     check(vmx_frame_put(slices, dc, ac, 1, 0, ac0, sizeof ac0, out, ROOM, &turn, &next, &at) == VMX_OK, "AC 0");
     check(vmx_frame_put(slices, dc, ac, 1, 1, ac1, sizeof ac1, out, ROOM, &turn, &next, &at) == VMX_OK, "AC 1");
     check(at == sizeof whole && memcmp(out, whole, sizeof whole) == 0, "the frame's bytes");
-    check(out[at] == 0xAA, "no byte behind the frame");
+    check(out[at] == 0xAA, "no byte after the frame");
 
     check(vmx_parse(WIDTH, HEIGHT, out, at, &interlaced, &quality, &shift, &header_len, &there) == VMX_OK, "parse");
     check(interlaced == 0 && quality == 36 && shift == 4 && header_len == 5 && there == 1, "the header");
@@ -240,7 +247,7 @@ static void reading(void) {
     d = a = 0;
     check(vmx_decode_plane8(back, sizeof back, 8, 0, 0, 0, dc, dc_end, &d, ac, ac_end, &a) == VMX_OK, "read");
     check(d == dc_end && a == ac_end, "read up to where it was coded");
-    check(memcmp(back, rows, 128) == 0 && back[128] == 7 && back[135] == 7, "the samples, and those behind them");
+    check(memcmp(back, rows, 128) == 0 && back[128] == 7 && back[135] == 7, "the samples, and those after them");
 
     d = a = 0;
     check(vmx_decode_plane8(back, 128, 8, 0, 0, 0, none, 0, &d, none, 0, &a) == VMX_OK, "two empty streams");
@@ -256,6 +263,7 @@ static void reading(void) {
               == VMX_NO_CODE, "a bad code in a slice");
     check(d == 0 && a == 0 && memcmp(back, old, 128) == 0 && memcmp(second, old, 128) == 0, "both planes stay");
     check(vmx_decode_plane8(back, 128, 8, 0, 25, 0, bad, sizeof bad, &d, none, 0, &a) == VMX_NO_PRESET, "preset 25");
+    check(vmx_decode_plane8(back, 128, 8, FAR, 0, 0, dc, dc_end, &d, ac, ac_end, &a) == VMX_NO_PLANE, "place 2^32");
     d = 16777216;
     check(vmx_decode_plane8(back, 128, 8, 0, 0, 0, dc, dc_end, &d, ac, ac_end, &a) == VMX_NO_START && d == 16777216,
           "a start too far");

@@ -1,90 +1,52 @@
 // A Rust program linked with libvmx.a: codes a plane, puts its streams into a frame and finds them there again.
 use std::process::exit;
 
+#[rustfmt::skip]
 #[link(name = "vmx", kind = "static")]
 unsafe extern "C" {
     fn vmx_encode_plane8(
-        rows: *const u8,
-        rows_len: usize,
-        stride: usize,
-        place: usize,
-        preset: usize,
-        shift: u32,
-        dc: *mut u8,
-        dc_len: usize,
-        dc_at: &mut usize,
-        ac: *mut u8,
-        ac_len: usize,
-        ac_at: &mut usize,
+        rows: *const u8, rows_len: usize, stride: usize, place: usize, preset: usize, shift: u32,
+        dc: *mut u8, dc_len: usize, dc_at: &mut usize, ac: *mut u8, ac_len: usize, ac_at: &mut usize,
     ) -> u32;
     fn vmx_frame_start(
-        width: usize,
-        height: usize,
-        interlaced: u32,
-        quality: u8,
-        dc_shift: u32,
-        out: *mut u8,
-        out_len: usize,
-        slices: &mut usize,
-        max_dc_len: &mut usize,
-        max_ac_len: &mut usize,
-        ac_turn: &mut u32,
-        next: &mut usize,
+        width: usize, height: usize, interlaced: u32, quality: u8, dc_shift: u32, out: *mut u8, out_len: usize,
+        slices: &mut usize, max_dc_len: &mut usize, max_ac_len: &mut usize, ac_turn: &mut u32, next: &mut usize,
         at: &mut usize,
     ) -> u32;
     fn vmx_frame_put(
-        slices: usize,
-        max_dc_len: usize,
-        max_ac_len: usize,
-        ac: u32,
-        slice: usize,
-        stream: *const u8,
-        stream_len: usize,
-        out: *mut u8,
-        out_len: usize,
-        ac_turn: &mut u32,
-        next: &mut usize,
-        at: &mut usize,
+        slices: usize, max_dc_len: usize, max_ac_len: usize, ac: u32, slice: usize, stream: *const u8,
+        stream_len: usize, out: *mut u8, out_len: usize, ac_turn: &mut u32, next: &mut usize, at: &mut usize,
     ) -> u32;
     fn vmx_stream(
-        width: usize,
-        height: usize,
-        frame: *const u8,
-        frame_len: usize,
-        ac: u32,
-        slice: usize,
-        offset: &mut usize,
+        width: usize, height: usize, frame: *const u8, frame_len: usize, ac: u32, slice: usize, offset: &mut usize,
         len: &mut usize,
     ) -> u32;
 }
 
 // Number and ends of coding an 8-bit plane from byte 0 of both buffers.
 fn code(rows: &[u8], stride: usize, preset: usize, dc: &mut [u8], ac: &mut [u8]) -> (u32, usize, usize) {
-    let (mut d, mut a) = (0, 0);
-    let n = unsafe {
-        vmx_encode_plane8(
-            rows.as_ptr(), rows.len(), stride, 0, preset, 0, dc.as_mut_ptr(), dc.len(), &mut d, ac.as_mut_ptr(), ac.len(), &mut a,
-        )
-    };
-    (n, d, a)
+    let (r, rn) = (rows.as_ptr(), rows.len());
+    let (d, dn, a, an) = (dc.as_mut_ptr(), dc.len(), ac.as_mut_ptr(), ac.len());
+    let (mut d_at, mut a_at) = (0, 0);
+    // SAFETY: slices with their own lengths, which do not overlap, and two places of our own.
+    let n = unsafe { vmx_encode_plane8(r, rn, stride, 0, preset, 0, d, dn, &mut d_at, a, an, &mut a_at) };
+    (n, d_at, a_at)
 }
 
 // A frame of 16 x 16 samples, one slice, from its streams.
 fn frame(streams: [&[u8]; 2]) -> Vec<u8> {
     let mut out = vec![0u8; 64];
-    let (mut slices, mut max_dc, mut max_ac, mut turn, mut next, mut at) = (0, 0, 0, 0, 0, 0);
+    let (o, on) = (out.as_mut_ptr(), out.len());
+    let (mut slices, mut dc, mut ac, mut turn, mut next, mut at) = (0, 0, 0, 0, 0, 0);
+    // SAFETY: the output with its own length, and six places of our own.
     let n = unsafe {
-        vmx_frame_start(
-            16, 16, 0, 99, 0, out.as_mut_ptr(), out.len(), &mut slices, &mut max_dc, &mut max_ac, &mut turn, &mut next, &mut at,
-        )
+        vmx_frame_start(16, 16, 0, 99, 0, o, on, &mut slices, &mut dc, &mut ac, &mut turn, &mut next, &mut at)
     };
     expect(n == 0 && slices == 1, "the header");
-    for (kind, s) in streams.iter().enumerate() {
-        let n = unsafe {
-            vmx_frame_put(
-                slices, max_dc, max_ac, kind as u32, 0, s.as_ptr(), s.len(), out.as_mut_ptr(), out.len(), &mut turn, &mut next, &mut at,
-            )
-        };
+    for (kind, s) in (0..).zip(streams) {
+        let (s, sn) = (s.as_ptr(), s.len());
+        // SAFETY: stream and output with their own lengths, which do not overlap, and three places of our own.
+        let n = unsafe { vmx_frame_put(slices, dc, ac, kind, 0, s, sn, o, on, &mut turn, &mut next, &mut at) };
         expect(n == 0, "a stream");
     }
     out.truncate(at);
@@ -93,6 +55,7 @@ fn frame(streams: [&[u8]; 2]) -> Vec<u8> {
 
 fn stream(frame: &[u8], kind: u32) -> &[u8] {
     let (mut offset, mut len) = (0, 0);
+    // SAFETY: the frame with its own length, and two places of our own.
     let n = unsafe { vmx_stream(16, 16, frame.as_ptr(), frame.len(), kind, 0, &mut offset, &mut len) };
     expect(n == 0, "a stream found");
     &frame[offset..offset + len]

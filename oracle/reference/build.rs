@@ -1,6 +1,6 @@
 //! Copies the published sources, unchanged, into OUT_DIR and lists them as
-//! modules. Four of them get one more line at their end: a child module, which
-//! can see its parent's private items.
+//! modules. Four of them get a few more lines at their end: a child module,
+//! which can see its parent's private items.
 
 use std::path::{Path, PathBuf};
 use std::{env, fs};
@@ -8,6 +8,10 @@ use std::{env, fs};
 const FILES: [&str; 10] =
     ["bits", "convert", "dct", "decoder", "encoder", "lanes", "layout", "simd", "slice", "tables"];
 const PROBED: [&str; 4] = ["bits", "dct", "decoder", "encoder"];
+/// Not all of the published code is called here, and none of it is changed to please a lint.
+const UNCHANGED: &str = "#[allow(dead_code, unsafe_op_in_unsafe_fn, clippy::all, clippy::undocumented_unsafe_blocks)]";
+/// What stands below the published lines is ours.
+const OURS: &str = "#[warn(dead_code, clippy::all)]\n#[deny(clippy::undocumented_unsafe_blocks)]";
 
 fn main() {
     println!("cargo:rerun-if-env-changed=VMX_RUST_SRC");
@@ -36,7 +40,7 @@ fn main() {
     let mut list = String::new();
     for name in FILES {
         copy(&src, &out, &here, name);
-        list += &format!("mod {name};\n");
+        list += &format!("{UNCHANGED}\nmod {name};\n");
     }
     fs::write(out.join("list.rs"), list).unwrap();
     println!("cargo:rustc-cfg=published");
@@ -51,7 +55,7 @@ fn copy(src: &Path, out: &Path, here: &Path, name: &str) {
     let mut text = published.clone();
     if PROBED.contains(&name) {
         let probe = here.join(format!("src/probe/{name}.rs"));
-        text.extend(format!("\n#[path = {probe:?}]\npub(crate) mod probe;\n").bytes());
+        text.extend(format!("\n{OURS}\n#[path = {probe:?}]\npub(crate) mod probe;\n").bytes());
     }
     let to = out.join(format!("{name}.rs"));
     fs::write(&to, &text).unwrap();

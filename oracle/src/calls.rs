@@ -4,7 +4,7 @@
 //! stores nothing where a code is bad.
 
 use crate::gen::planes::Made;
-use crate::questions::{self, Settings, Shape};
+use crate::questions::{self, Settings, Shape, NO_CODE};
 use reference::api::bits::{AcSymbol, Cursor};
 use reference::api::tables::{quant, Quant, PRESETS};
 use reference::api::{slice, Path};
@@ -57,7 +57,13 @@ impl Rust {
     }
 
     /// A plane read at positions: the ends, or nothing at a bad code.
-    pub fn rows<T: Made>(&self, s: Settings, plane: &mut Plane<T>, b: &Buffers, at: (usize, usize)) -> Option<(usize, usize)> {
+    pub fn rows<T: Made>(
+        &self,
+        s: Settings,
+        plane: &mut Plane<T>,
+        b: &Buffers,
+        at: (usize, usize),
+    ) -> Option<(usize, usize)> {
         let (place, stride, rows) = plane;
         let q = &self.quants[s.preset].decode;
         let (dc, ac) = ((&b.dc[..], at.0), (&b.ac[..], at.1));
@@ -65,10 +71,17 @@ impl Rust {
     }
 
     /// The published preview alone, into the rows themselves: for timing.
-    pub fn preview_in_place(&self, dc_shift: u32, place: usize, stride: usize, out: [&mut [u8]; 2], b: &mut Buffers) -> u32 {
+    pub fn preview_in_place(
+        &self,
+        dc_shift: u32,
+        place: usize,
+        stride: usize,
+        out: [&mut [u8]; 2],
+        b: &mut Buffers,
+    ) -> u32 {
         let [x, y] = out;
         match slice::decode_plane_preview(x, y, stride, place, dc_shift, (&b.dc, b.dc_at)) {
-            None => 8,
+            None => NO_CODE,
             Some(end) => {
                 b.dc_at = end;
                 0
@@ -148,7 +161,7 @@ impl Calls for Rust {
         for plane in &mut made {
             match self.rows(s, plane, b, at) {
                 Some(ends) => at = ends,
-                None => return 8,
+                None => return NO_CODE,
             }
         }
         planes.clone_from_slice(&made);
@@ -164,7 +177,7 @@ impl Calls for Rust {
         }
         let (mut p, mut q) = (x.to_vec(), y.to_vec());
         match slice::decode_plane_preview(&mut p, &mut q, stride, place, dc_shift, (&b.dc, b.dc_at)) {
-            None => 8,
+            None => NO_CODE,
             Some(end) => {
                 x.copy_from_slice(&p);
                 y.copy_from_slice(&q);
@@ -189,7 +202,7 @@ impl Calls for Rust {
                 pending += match cursor.symbol() {
                     Some(AcSymbol::Run(n)) => n,
                     Some(AcSymbol::Value(_)) => 1,
-                    None => return 8,
+                    None => return NO_CODE,
                 };
             }
             pending -= 64;

@@ -17,7 +17,8 @@ mod questions;
 #[cfg(published)]
 mod report;
 
-const USAGE: &str = "usage: oracle differential SECONDS SEED [LAYER..] | answers | bench [PART..] | work WHO WHAT TIMES";
+const USAGE: &str =
+    "usage: oracle differential SECONDS SEED [LAYER..] | answers | bench [PART..] | work WHO WHAT TIMES";
 
 #[cfg(published)]
 fn main() -> std::process::ExitCode {

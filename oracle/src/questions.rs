@@ -16,17 +16,40 @@ pub struct Shape {
     pub len: usize,
 }
 
-const LAST_START: usize = 16_777_215;
+// The numbers, by what a "no" says, and the limits; the same names as in crates/ask, written down here once more so that
+// the two can be compared.
+pub const NO_PRESET: u32 = 1;
+pub const NO_SHIFT: u32 = 2;
+pub const NO_PLANE: u32 = 3;
+pub const NO_STRIDE: u32 = 4;
+pub const NO_ROWS: u32 = 5;
+pub const NO_ROOM: u32 = 6;
+pub const NO_START: u32 = 7;
+pub const NO_CODE: u32 = 8;
+pub const NO_LIMIT: u32 = 13;
+pub const NO_TURN: u32 = 14;
+
+pub const PRESET_MAX: usize = 24;
+pub const SHIFT_MAX: u32 = 15;
+pub const PLACE_MAX: usize = 3;
+pub const PLANES_MAX: usize = 4;
+pub const STRIDE_MAX: usize = 7680;
+pub const DC_BLOCK_BYTES: usize = 4;
+pub const AC_BLOCK_BYTES: usize = 197;
+pub const START_MAX: usize = 16_777_215;
+pub const DC_READ_MAX: usize = 245_760;
+pub const AC_READ_MAX: usize = 430_080;
+pub const SLICES_MAX: usize = 270;
 
 /// The size call's lengths for a stride.
 pub fn sizes(stride: usize) -> (usize, usize) {
-    (4 * (stride / 4), 197 * (stride / 4))
+    (DC_BLOCK_BYTES * (stride / 4), AC_BLOCK_BYTES * (stride / 4))
 }
 
 /// Question 4 over all planes.
 pub fn strides(all: &[usize]) -> u32 {
-    if all.iter().any(|s| s % 8 != 0 || *s < 8 || *s > 7680) {
-        4
+    if all.iter().any(|s| s % 8 != 0 || *s < 8 || *s > STRIDE_MAX) {
+        NO_STRIDE
     } else {
         0
     }
@@ -34,20 +57,20 @@ pub fn strides(all: &[usize]) -> u32 {
 
 /// Questions 1 to 5, over all planes before the next question.
 fn shapes(s: Settings, planes: &[Shape]) -> u32 {
-    if s.preset > 24 {
-        return 1;
+    if s.preset > PRESET_MAX {
+        return NO_PRESET;
     }
-    if s.dc_shift > 15 {
-        return 2;
+    if s.dc_shift > SHIFT_MAX {
+        return NO_SHIFT;
     }
-    if planes.is_empty() || planes.len() > 4 || planes.iter().any(|p| p.place > 3) {
-        return 3;
+    if planes.is_empty() || planes.len() > PLANES_MAX || planes.iter().any(|p| p.place > PLACE_MAX) {
+        return NO_PLANE;
     }
     if planes.iter().any(|p| strides(&[p.stride]) > 0) {
-        return 4;
+        return NO_STRIDE;
     }
     if planes.iter().any(|p| p.len < 16 * p.stride) {
-        return 5;
+        return NO_ROWS;
     }
     0
 }
@@ -61,10 +84,10 @@ pub fn coding(s: Settings, planes: &[Shape], dc: (usize, usize), ac: (usize, usi
     let need = planes.iter().map(|p| sizes(p.stride)).fold((0, 0), |a, b| (a.0 + b.0, a.1 + b.1));
     let room = |(len, at): (usize, usize), need: usize| len.checked_sub(at).is_some_and(|left| left >= need);
     if !room(dc, need.0) || !room(ac, need.1) {
-        return 6;
+        return NO_ROOM;
     }
-    if dc.1 > LAST_START || ac.1 > LAST_START {
-        return 7;
+    if dc.1 > START_MAX || ac.1 > START_MAX {
+        return NO_START;
     }
     0
 }
@@ -75,8 +98,8 @@ pub fn reading(s: Settings, planes: &[Shape], dc: (usize, usize), ac: (usize, us
         0 => {}
         number => return number,
     }
-    if dc.1 > LAST_START || ac.1 > LAST_START || dc.0 > 245_760 || ac.0 > 430_080 {
-        return 7;
+    if dc.1 > START_MAX || ac.1 > START_MAX || dc.0 > DC_READ_MAX || ac.0 > AC_READ_MAX {
+        return NO_START;
     }
     0
 }
@@ -88,10 +111,10 @@ pub fn preview(dc_shift: u32, place: usize, stride: usize, outs: (usize, usize),
         number => return number,
     }
     if outs.0 < stride / 8 || outs.1 < stride / 8 {
-        return 5;
+        return NO_ROWS;
     }
-    if dc.1 > LAST_START || dc.0 > 245_760 {
-        return 7;
+    if dc.1 > START_MAX || dc.0 > DC_READ_MAX {
+        return NO_START;
     }
     0
 }
@@ -103,10 +126,10 @@ pub fn report(stride: usize, out: usize, ac: (usize, usize)) -> u32 {
         number => return number,
     }
     if out < stride / 4 {
-        return 5;
+        return NO_ROWS;
     }
-    if ac.1 > LAST_START || ac.0 > 430_080 {
-        return 7;
+    if ac.1 > START_MAX || ac.0 > AC_READ_MAX {
+        return NO_START;
     }
     0
 }

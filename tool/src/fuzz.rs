@@ -93,7 +93,7 @@ fn damage(file: &mut Vec<u8>, random: &mut Random) {
     if file.is_empty() {
         return;
     }
-    // Mostly behind the header line.
+    // Mostly after the header line.
     let first = if random.below(10) == 0 { 0 } else { file.len().min(36) };
     let at = first + random.below((file.len() - first).max(1));
     let at = at.min(file.len() - 1);
@@ -218,7 +218,7 @@ impl<S: Sample> Shown<S> {
 
 const GUARD: usize = 24;
 
-/// Reads each slice by the calls themselves, into rows with guards behind them.
+/// Reads each slice by the calls themselves, into rows with guards after them.
 fn slices<S: Sample>(layout: &Layout, frame: &[u8], random: &mut Random) -> Result<(), String> {
     let Ok(frame) = Frame::parse(layout, frame) else { return Ok(()) };
     let info = frame.info();

@@ -59,7 +59,7 @@ impl Format {
         Layout::new(self.width, self.height).map_err(|e| format!("{} x {}: {e}", self.width, self.height))
     }
 
-    /// Bytes of a frame behind its line.
+    /// Bytes of a frame after its line.
     fn frame_len(&self) -> usize {
         let samples = self.height * (self.width + 2 * (self.width / 2));
         if self.depth == Depth::Eight {

@@ -163,7 +163,7 @@ fn a_bad_code_is_a_held_band() {
     well(&f, "decode a.vmx whole.y4m");
     let mut bytes = fs::read(f.join("a.vmx")).unwrap();
     let (at, _) = places(&bytes)[4];
-    bytes[at + 7..at + 14].fill(0); // behind header and length: the DC stream of slice 0
+    bytes[at + 7..at + 14].fill(0); // after header and length: the DC stream of slice 0
     fs::write(f.join("bad.vmx"), &bytes).unwrap();
     let (status, _, err) = vmx(&f, "decode bad.vmx out.y4m");
     assert_eq!(status, 3);

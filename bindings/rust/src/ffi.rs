@@ -70,7 +70,7 @@ extern "C" {
         stride1: usize, p2: *mut u16, p2_len: usize, stride2: usize, p3: *mut u16, p3_len: usize, stride3: usize,
         count: usize, preset: usize, shift: u32, dc: Byte, dc_len: usize, dc_at: At, ac: Byte, ac_len: usize,
         ac_at: At) -> u32;
-    fn vmx_preview(shift: u32, place: u32, stride: usize, upper: ByteMut, upper_len: usize, lower: ByteMut,
+    fn vmx_preview(shift: u32, place: usize, stride: usize, upper: ByteMut, upper_len: usize, lower: ByteMut,
         lower_len: usize, dc: Byte, dc_len: usize, dc_at: At) -> u32;
     fn vmx_block_report(stride: usize, report: ByteMut, report_len: usize, ac: Byte, ac_len: usize, ac_at: At) -> u32;
     fn vmx_plane_size(stride: usize, dc_len: At, ac_len: At) -> u32;
@@ -78,7 +78,7 @@ extern "C" {
         ac_len: At) -> u32;
 }
 
-/// A number as a verdict. The library answers 0 to 14.
+/// A number as a verdict: 0, or that of one of document 01's questions.
 fn verdict(number: u32) -> Verdict {
     match Refused::from_number(number) {
         Some(refused) => Err(refused),
@@ -387,8 +387,6 @@ pub fn preview(
     shift: u32,
     (dc, at): In,
 ) -> Verdict {
-    // A place that does not fit is above 3 either way.
-    let place = u32::try_from(place).unwrap_or(u32::MAX);
     let (u, un, l, ln) = (upper.as_mut_ptr(), upper.len(), lower.as_mut_ptr(), lower.len());
     // SAFETY: two outputs and a stream, slices that do not overlap, and a position apart from them.
     verdict(unsafe { vmx_preview(shift, place, stride, u, un, l, ln, dc.as_ptr(), dc.len(), at) })

@@ -33,7 +33,7 @@ pub struct Frame<'a> {
 }
 
 impl<'a> Frame<'a> {
-    /// Puts document 01's questions about a frame of this size. Bytes behind the last stream are ignored.
+    /// Puts document 01's questions about a frame of this size. Bytes after the last stream are ignored.
     /// Refused: 2, 10 to 13.
     ///
     /// ```

@@ -51,7 +51,7 @@ impl<S: Sample> Picture<S> {
         &mut self.planes[p][start..start + self.layout.plane_width(p)]
     }
 
-    /// Fills what is not in the image: each row behind its width with its last sample, padding rows with the last
+    /// Fills what is not in the image: each row past its width with its last sample, padding rows with the last
     /// image row above them. So the padding costs few bits.
     pub fn pad(&mut self, interlaced: bool) {
         for p in 0..self.plane_count() {

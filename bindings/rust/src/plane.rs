@@ -58,7 +58,7 @@ pub fn encode_plane<S: Sample>(
     ffi::encode_plane(S::ENCODE_PLANE, (rows, stride, place), (preset, dc_shift), dc.lend(), ac.lend())
 }
 
-/// Reads one plane into its rows. Samples behind sixteen rows stay; a refused call changes none. Refused: 1 to 5, 7, 8.
+/// Reads one plane into its rows. Samples after sixteen rows stay; a refused call changes none. Refused: 1 to 5, 7, 8.
 ///
 /// ```
 /// use vmx::{decode_plane, Refused, StreamReader};

@@ -41,7 +41,7 @@ pub enum Refused {
 pub type Verdict = Result<(), Refused>;
 
 impl Refused {
-    /// All reasons, by their numbers 1 to 14.
+    /// All reasons, in the order of their numbers.
     pub const ALL: [Refused; 14] = [
         Refused::Preset,
         Refused::DcShift,
@@ -70,10 +70,9 @@ impl Refused {
         self as u32
     }
 
-    /// The reason with this number; none for 0 and for numbers above 14.
+    /// The reason with this number; none for 0 and for any other number that no question has.
     pub fn from_number(number: u32) -> Option<Refused> {
-        let place = number.checked_sub(1)?;
-        Self::ALL.get(place as usize).copied()
+        Self::ALL.into_iter().find(|r| r.number() == number)
     }
 
     /// The question that was answered no, in document 01's words.
@@ -127,14 +126,34 @@ mod tests {
     use super::*;
 
     #[test]
-    fn numbers_are_those_of_the_list() {
-        for (i, r) in Refused::ALL.into_iter().enumerate() {
-            assert_eq!(r.number(), i as u32 + 1);
+    fn every_reason_is_found_by_its_number() {
+        assert!(Refused::ALL.windows(2).all(|r| r[0].number() < r[1].number()), "in order, each once");
+        for r in Refused::ALL {
             assert_eq!(Refused::from_number(r.number()), Some(r));
             assert!(r.question().ends_with('?'));
             assert!(r.to_string().ends_with(&format!("({})", r.number())));
         }
-        assert_eq!(Refused::from_number(0), None);
-        assert_eq!(Refused::from_number(15), None);
+    }
+
+    #[test]
+    fn any_other_number_is_none() {
+        let numbers = Refused::ALL.map(Refused::number);
+        for n in (0..=1000).chain([u32::MAX - 1, u32::MAX]).filter(|n| !numbers.contains(n)) {
+            assert_eq!(Refused::from_number(n), None, "{n}");
+        }
+        for n in [0, 15, u32::MAX] {
+            assert_eq!(Refused::from_number(n), None, "{n}");
+        }
+    }
+
+    #[test]
+    fn the_c_header_has_the_same_numbers() {
+        let header = include_str!("../../../include/vmx.h");
+        let defined: Vec<u32> = header
+            .lines()
+            .filter_map(|line| line.strip_prefix("#define VMX_NO_"))
+            .map(|rest| rest.split_whitespace().nth(1).and_then(|n| n.parse().ok()).expect("a number"))
+            .collect();
+        assert_eq!(defined, Refused::ALL.map(Refused::number));
     }
 }

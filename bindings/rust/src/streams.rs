@@ -1,9 +1,9 @@
 //! Streams with a position in whole bytes.
 
-/// A lent buffer that streams are written into, one behind the other.
+/// A lent buffer that streams are written into, one after the other.
 ///
-/// A call that is accepted moves the position behind what it wrote; bytes behind that stay as they were. A refused
-/// call changes nothing.
+/// A call that is accepted moves the position to the byte after what it wrote; the bytes from there on stay as they
+/// were. A refused call changes nothing.
 #[derive(Debug)]
 pub struct StreamWriter<'a> {
     pub(crate) bytes: &'a mut [u8],
@@ -17,7 +17,7 @@ impl<'a> StreamWriter<'a> {
         Self::at(bytes, 0)
     }
 
-    /// Writes from byte `pos` on. A position behind the buffer's end is allowed here; calls will refuse it.
+    /// Writes from byte `pos` on. A position past the buffer's end is allowed here; calls will refuse it.
     pub fn at(bytes: &'a mut [u8], pos: usize) -> Self {
         StreamWriter { bytes, start: pos, pos }
     }
@@ -50,7 +50,7 @@ impl<'a> StreamReader<'a> {
         Self::at(bytes, 0)
     }
 
-    /// Reads from byte `pos` on, which may lie behind the end.
+    /// Reads from byte `pos` on, which may lie past the end.
     pub fn at(bytes: &'a [u8], pos: usize) -> Self {
         StreamReader { bytes, pos }
     }

@@ -30,9 +30,9 @@ pub(crate) fn for_each<T: Send, C, R: Send>(
     let mut rest = items;
     let mut parts = Vec::new();
     while !rest.is_empty() {
-        let behind = rest.split_off(per.min(rest.len()));
+        let later = rest.split_off(per.min(rest.len()));
         parts.push((parts.len() * per, rest));
-        rest = behind;
+        rest = later;
     }
     let one = &one;
     thread::scope(|scope| {

@@ -5,7 +5,7 @@ mod common;
 use common::Random;
 use vmx::*;
 
-/// Room for a plane of stride 8, with guard bytes in front and behind.
+/// Room for a plane of stride 8, with guard bytes before and after it.
 const GUARD: usize = 5;
 
 fn buffers(stride: usize) -> (Vec<u8>, Vec<u8>) {
@@ -114,6 +114,7 @@ fn previews_and_reports_are_refused_too() {
     };
     assert_eq!(preview(8, 0, 16, &[], 0), 2);
     assert_eq!(preview(8, 4, 15, &[], 0), 3);
+    assert_eq!(preview(8, 1 << 32, 15, &[], 0), 3);
     assert_eq!(preview(8, usize::MAX, 15, &[], 0), 3);
     assert_eq!(preview(9, 3, 15, &[], 0), 4);
     assert_eq!(preview(24, 3, 15, &[], 0), 5);
@@ -152,7 +153,7 @@ fn slices_of<S: Sample>() {
         let planes: Vec<_> = rows.iter().zip(&strides).map(|(rows, &stride)| Plane { rows, stride }).collect();
         encode_slice(&planes, preset, shift, &mut dc, &mut ac).unwrap();
 
-        // the planes' own streams, one behind the other
+        // the planes' own streams, one after the other
         let each: Vec<_> = planes.iter().enumerate().map(|(p, x)| coded(x.rows, x.stride, p, preset, shift)).collect();
         assert_eq!(dc.written(), each.iter().map(|e| &e.0[..]).collect::<Vec<_>>().concat());
         assert_eq!(ac.written(), each.iter().map(|e| &e.1[..]).collect::<Vec<_>>().concat());

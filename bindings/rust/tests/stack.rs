@@ -29,7 +29,7 @@ fn calls<S: Sample>(make: impl Fn(usize) -> S) {
     let (mut d, mut a) = (StreamWriter::new(&mut dc), StreamWriter::new(&mut ac));
     encode_slice(&planes, 24, 0, &mut d, &mut a).unwrap();
     let mut read = [0; 4].map(|_| vec![S::default(); rows.len()]);
-    let mut planes = read.each_mut().map(|rows| PlaneMut { rows, stride: STRIDE });
+    let mut planes: Vec<_> = read.iter_mut().map(|rows| PlaneMut { rows, stride: STRIDE }).collect();
     let (d, a) = (d.written(), a.written());
     decode_slice(&mut planes, 24, 0, &mut StreamReader::new(d), &mut StreamReader::new(a)).unwrap();
 

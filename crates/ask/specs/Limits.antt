@@ -51,6 +51,13 @@ dcBlockBytes = 4
 abbrev pub acBlockBytes : ℕ
 acBlockBytes = 197
 
+-- a column of a plane has two blocks
+abbrev pub dcColumnBytes : ℕ
+dcColumnBytes = 2 * dcBlockBytes
+
+abbrev pub acColumnBytes : ℕ
+acColumnBytes = 2 * acBlockBytes
+
 -- "Starts at most 16,777,215"
 abbrev pub startMax : ℕ
 startMax = 16777215

@@ -14,6 +14,10 @@ pub const ROWS: usize = 16;
 pub const DC_BLOCK_BYTES: usize = 4;
 
 pub const AC_BLOCK_BYTES: usize = 197;
+// A column of a plane has two blocks.
+pub const DC_COLUMN_BYTES: usize = 2 * DC_BLOCK_BYTES;
+
+pub const AC_COLUMN_BYTES: usize = 2 * AC_BLOCK_BYTES;
 
 pub const START_MAX: usize = 16777215;
 // Lengths of streams that are read.

@@ -8,6 +8,7 @@ use lib.Dec.{leb}
 use lib.ListN.{length}
 use borrow.Author.Tests.{le-leb, lt-leb, leb-true, leb-false}
 use Rattle.ask.specs.Ask.{Answer, refused, accepted, firstNo, asked}
+use Rattle.ask.specs.Limits.{shiftMax, widthMax, heightMax}
 use Rattle.bits.specs.Lay.{lay}
 use Rattle.layout.specs.Geometry.{sizeOk, sliceCount, maxDcLen, maxAcLen}
 use Rattle.layout.proofs.Laws.{sized}
@@ -35,45 +36,30 @@ pub short-header : (interlaced : Bool) (quality shift count : ℕ) → shift ≡
 unfolding headerBytes
 short-header interlaced quality shift count e = rw e
 
--- ---- the first "no" about the header
-module _ (w h shift len at : ℕ) where
-  pub no-shift : 15 < shift → firstNo (headerQuestions w h shift len at) ≡ 2
-  unfolding headerQuestions firstNo
-  no-shift a = rw (lt-leb shift 15 a)
+-- ---- what the questions leave
+pub all-yes : (w h shift len at : ℕ) → shift ≤ shiftMax → leb (at + headerLength shift) len ≡ true → sizeOk w h ≡ true → firstNo (headerQuestions w h shift len at) ≡ 0
+unfolding headerQuestions firstNo
+all-yes w h shift len at a b d = rw (le-leb shift shiftMax a, b, d)
 
-  module _ (a : shift ≤ 15) where
-    pub no-room : leb (at + headerLength shift) len ≡ false → firstNo (headerQuestions w h shift len at) ≡ 6
-    unfolding headerQuestions firstNo
-    no-room b = rw (le-leb shift 15 a, b)
-
-    module _ (b : leb (at + headerLength shift) len ≡ true) where
-      pub no-size : sizeOk w h ≡ false → firstNo (headerQuestions w h shift len at) ≡ 9
-      unfolding headerQuestions firstNo
-      no-size d = rw (le-leb shift 15 a, b, d)
-
-      pub all-yes : sizeOk w h ≡ true → firstNo (headerQuestions w h shift len at) ≡ 0
-      unfolding headerQuestions firstNo
-      all-yes d = rw (le-leb shift 15 a, b, d)
-
--- what the questions leave
 pub record Starts (w h shift len at : ℕ) : Type 0 where
-  pub wide : w ≤ 7680
-  pub high : h ≤ 4320
-  pub small : shift ≤ 15
+  pub wide : w ≤ widthMax
+  pub high : h ≤ heightMax
+  pub small : shift ≤ shiftMax
   pub room : at + headerLength shift ≤ len
 
 pub starts : (w h shift len at : ℕ) → firstNo (headerQuestions w h shift len at) ≡ 0 → Starts w h shift len at
-starts w h shift len at e = go (leb shift 15) refl (leb (at + headerLength shift) len) refl (sizeOk w h) refl
+unfolding headerQuestions firstNo
+starts w h shift len at e = go (leb shift shiftMax) refl (leb (at + headerLength shift) len) refl (sizeOk w h) refl
   where
-    go : (a : Bool) → leb shift 15 ≡ a → (b : Bool) → leb (at + headerLength shift) len ≡ b → (d : Bool) → sizeOk w h ≡ d → Starts w h shift len at
-    go false x b y d z = absurd (let k = sym (no-shift w h shift len at (leb-false shift 15 x)) ∙ e in omega arith)
-    go true x false y d z = absurd (let k = sym (no-room w h shift len at (leb-true shift 15 x) y) ∙ e in omega arith)
-    go true x true y false z = absurd (let k = sym (no-size w h shift len at (leb-true shift 15 x) y z) ∙ e in omega arith)
+    go : (a : Bool) → leb shift shiftMax ≡ a → (b : Bool) → leb (at + headerLength shift) len ≡ b → (d : Bool) → sizeOk w h ≡ d → Starts w h shift len at
+    go false x b y d z = absurd (let k = rw x at e in omega arith)
+    go true x false y d z = absurd (let k = rw (x, y) at e in omega arith)
+    go true x true y false z = absurd (let k = rw (x, y, z) at e in omega arith)
     go true x true y true z =
         record {
           wide = sized w h z .wide;
           high = sized w h z .high;
-          small = leb-true shift 15 x;
+          small = leb-true shift shiftMax x;
           room = leb-true (at + headerLength shift) len y;
         }
 

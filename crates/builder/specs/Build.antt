@@ -6,6 +6,8 @@ use lib.Dec.{leb}
 use lib.ListN.{length}
 use Rattle.bits.specs.Lay.{lay}
 use Rattle.ask.specs.Ask.{Answer, accepted, Question, ask, asked}
+use Rattle.ask.specs.Limits.{shiftOk}
+use Rattle.ask.specs.Numbers.{noShift, noRoom}
 use Rattle.layout.specs.Geometry.{sizeQuestion, sliceCount, maxDcLen, maxAcLen}
 
 -- "when no DC shift is named it writes 0"
@@ -37,7 +39,7 @@ pub record Build : Type 0 where
 
 -- question 6: room behind `at` for n bytes more, in a buffer of so many
 abbrev pub roomQuestion : ℕ → ℕ → ℕ → Question
-roomQuestion len at n = ask (leb (at + n) len) 6
+roomQuestion len at n = ask (leb (at + n) len) noRoom
 
 -- the state and the buffer afterwards
 pub record Built : Type 0 where
@@ -54,7 +56,7 @@ headerLength (suc s) = 5
 
 -- the header: questions 2, 6, 9
 unfoldable pub headerQuestions : ℕ → ℕ → ℕ → ℕ → ℕ → List Question
-headerQuestions w h shift len at = ask (leb shift 15) 2 ∷ roomQuestion len at (headerLength shift) ∷ sizeQuestion w h ∷ []
+headerQuestions w h shift len at = ask (shiftOk shift) noShift ∷ roomQuestion len at (headerLength shift) ∷ sizeQuestion w h ∷ []
 
 unfoldable pub headerOf : ℕ → ℕ → Bool → ℕ → ℕ → List ℕ → ℕ → Answer Built
 headerOf w h interlaced quality shift out at =

@@ -4,11 +4,15 @@
 // The builder is a state by value over a lent buffer. It refuses a buffer without room; a refusal changes no byte.
 pub mod streams;
 
+use ask::numbers::NO_ROOM;
+use ask::numbers::NO_SHIFT;
+use ask::numbers::NO_SIZE;
 ghost use mathlib.Core.Path.{_≡_};
 ghost use Prim.Native.Nat.{_+_, _≤_};
 ghost use lib.Dec.{leb};
 ghost use lib.ListN.{length};
 ghost use Rattle.ask.specs.Ask.{firstNo};
+ghost use Rattle.ask.specs.Limits.{shiftMax};
 ghost use Rattle.bits.specs.Lay.{lay};
 ghost use Rattle.builder.specs.Build.{formatByte, headerBytes, headerLength, headerQuestions, headerOf};
 ghost use Rattle.builder.specs.Views.{shiftSays, HeaderCall};
@@ -66,16 +70,13 @@ fn header_length(shift: u32) -> usize
 fn header_number(width: usize, height: usize, shift: u32, len: usize, at: usize) -> u32
     ensures { λ r. ⌜ r ≡ firstNo (headerQuestions width height shift len at) ⌝ }
 {
-    if 15 < shift {
-        return 2;
-    }
-    if fits(len, at, header_length(shift)) {
-        if layout::size_ok(width, height) {
-            return 0;
-        }
-        return 9;
-    }
-    6
+    let shifts = ask::shift_ok(shift);
+    let n = header_length(shift);
+    let room = fits(len, at, n);
+    let size = layout::size_ok(width, height);
+    let from_size = ask::or_else(size, NO_SIZE, 0);
+    let from_room = ask::or_else(room, NO_ROOM, from_size);
+    ask::or_else(shifts, NO_SHIFT, from_room)
 }
 
 fn format_byte(interlaced: bool) -> u8
@@ -86,7 +87,7 @@ fn format_byte(interlaced: bool) -> u8
 
 // Stores the header at `at`.
 fn put_header(out: &mut [u8], at: usize, interlaced: bool, quality: u8, shift: u32, count: u8)
-    requires { ⌜ (at + headerLength shift ≤ length (now out)) × (shift ≤ 15) ⌝ }
+    requires { ⌜ (at + headerLength shift ≤ length (now out)) × (shift ≤ shiftMax) ⌝ }
     ensures { λ _. ⌜ now (out .exit) ≡ lay (now (out .entry)) at (headerBytes interlaced quality shift count) ⌝ }
 {
     let f = format_byte(interlaced);
@@ -108,7 +109,8 @@ pub fn start_frame(
     out: &mut [u8],
     at: usize,
 ) -> HeaderAnswer
-    ensures { λ r. ⌜ HeaderCall r (now (out .entry)) (now (out .exit)) (headerOf width height interlaced quality (shiftSays shift) (now (out .entry)) at) ⌝ }
+    ensures { λ r. ⌜ HeaderCall r (now (out .entry)) (now (out .exit))
+        (headerOf width height interlaced quality (shiftSays shift) (now (out .entry)) at) ⌝ }
 {
     let s = shift_of(shift);
     let x = header_number(width, height, s, out.len(), at);

@@ -3,6 +3,9 @@
 // It refuses a stream out of turn, a stream longer than its limit and a buffer without room; a refusal hands the state back
 // as it came and changes no byte.
 use crate::Builder;
+use ask::numbers::NO_LIMIT;
+use ask::numbers::NO_ROOM;
+use ask::numbers::NO_TURN;
 use layout::Kind;
 ghost use mathlib.Core.Path.{_≡_};
 ghost use Prim.Native.Nat.{_+_, _≤_, _<_};
@@ -68,16 +71,12 @@ fn in_turn(b: Builder, kind: Kind, slice: usize) -> bool
 fn stream_number(b: Builder, kind: Kind, slice: usize, n: usize, len: usize) -> u32
     ensures { λ r. ⌜ r ≡ firstNo (streamQuestions (builderSays b) (isAc kind) slice n len) ⌝ }
 {
-    if fits_stream(len, b.at, n) {
-        if limit_for(b, kind) < n {
-            return 13;
-        }
-        if in_turn(b, kind, slice) {
-            return 0;
-        }
-        return 14;
-    }
-    6
+    let room = fits_stream(len, b.at, n);
+    let limit = limit_for(b, kind);
+    let turn = in_turn(b, kind, slice);
+    let from_turn = ask::or_else(turn, NO_TURN, 0);
+    let from_limit = ask::or_else(n <= limit, NO_LIMIT, from_turn);
+    ask::or_else(room, NO_ROOM, from_limit)
 }
 
 // Stores a 32-bit length, low byte first.
@@ -91,7 +90,7 @@ fn put_length(out: &mut [u8], at: usize, n: usize)
     out[at + 3] = (n / 16777216 % 256) as u8;
 }
 
-// The state behind a stream that ends at `at`.
+// The state after a stream that ends at `at`.
 fn next_state(b: Builder, at: usize) -> Builder
     requires { ⌜ b .next < b .slices ⌝ }
     ensures { λ r. ⌜ builderSays r ≡ afterStream (builderSays b) at ⌝ }
@@ -131,9 +130,10 @@ fn next_state(b: Builder, at: usize) -> Builder
     }
 }
 
-// Puts the stream of a slice behind what was written.
+// Puts the stream of a slice after what was written.
 pub fn put_stream(b: Builder, kind: Kind, slice: usize, s: &[u8], out: &mut [u8]) -> StreamAnswer
-    ensures { λ r. ⌜ StreamCall b r (now (out .entry)) (now (out .exit)) (streamOf (builderSays b) (isAc kind) slice (now (s .entry)) (now (out .entry))) ⌝ }
+    ensures { λ r. ⌜ StreamCall b r (now (out .entry)) (now (out .exit))
+        (streamOf (builderSays b) (isAc kind) slice (now (s .entry)) (now (out .entry))) ⌝ }
 {
     let n = s.len();
     let x = stream_number(b, kind, slice, n, out.len());

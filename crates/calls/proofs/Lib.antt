@@ -7,4 +7,4 @@ pub mod DcNear
 pub mod PlaneBack
 pub mod Size
 pub mod Fits
-pub mod Asked
+pub mod Legal

@@ -2,7 +2,7 @@
 use mathlib.Core.Bool.{Bool, true, false}
 use mathlib.Core.List.{List, [], _∷_}
 use Prim.Native.Nat.{ℕ}
-use lib.ListN.{take}
+use lib.ListN.{length, take}
 
 pub data Depth : Type 0 where
   eight : Depth
@@ -17,16 +17,25 @@ pub record Settings : Type 0 where
   pub preset : ℕ
   pub shift : ℕ
 
+abbrev pub settings : Depth → ℕ → ℕ → Settings
+settings depth preset shift = record { depth = depth; preset = preset; shift = shift }
+
 -- rows lent for one plane, and how many samples a row has
 pub record Rows : Type 0 where
   pub stride : ℕ
   pub samples : List ℕ
+
+abbrev pub rows : ℕ → List ℕ → Rows
+rows stride samples = record { stride = stride; samples = samples }
 
 -- "A plane is 16 rows of `stride` samples." The place says which plane of a picture it is
 pub record Plane : Type 0 where
   pub place : ℕ
   pub stride : ℕ
   pub samples : List ℕ
+
+abbrev pub plane : ℕ → ℕ → List ℕ → Plane
+plane place stride samples = record { place = place; stride = stride; samples = samples }
 
 abbrev pub planeAt : ℕ → Rows → Plane
 planeAt k r = record { place = k; stride = r .stride; samples = r .samples }
@@ -55,7 +64,16 @@ pub record PerStream : Type 0 where
   pub dc : ℕ
   pub ac : ℕ
 
+abbrev pub positions : ℕ → ℕ → PerStream
+positions d a = record { dc = d; ac = a }
+
 -- the two lent buffers, or streams
 pub record Buffers : Type 0 where
   pub dcBytes : List ℕ
   pub acBytes : List ℕ
+
+abbrev pub buffers : List ℕ → List ℕ → Buffers
+buffers dcs acs = record { dcBytes = dcs; acBytes = acs }
+
+abbrev pub lengthsOf : Buffers → PerStream
+lengthsOf b = positions (length (b .dcBytes)) (length (b .acBytes))

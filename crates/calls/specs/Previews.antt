@@ -11,7 +11,8 @@ use Rattle.ask.specs.Ask.{firstNo}
 use Rattle.calls.specs.Arguments.{eight, Settings, Rows, Plane, planeAt, PerStream}
 use Rattle.calls.specs.ReadPlane.{BlockRead, Blocks, badBlocks, blocks, readBlocks, DcStep, DcSteps, badSteps, dcSteps, readSteps, predicted}
 use Rattle.calls.specs.Grid.{columnsOf, blocksOf, level}
-use Rattle.calls.specs.Questions.{previewQuestions, reportQuestions, planeSizeQuestions, sliceSizeQuestions, badCode, lengthsAtMost, together}
+use Rattle.calls.specs.Questions.{previewQuestions, reportQuestions, planeSizeQuestions, sliceSizeQuestions, lengthsAtMost, together}
+use Rattle.ask.specs.Numbers.{noCode}
 
 -- ---- preview
 
@@ -32,7 +33,7 @@ previewBytes shift place n steps = map (previewByte place) (predicted shift (pos
 
 abbrev pub previewedBy : ℕ → ℕ → ℕ → ℕ → ℕ → List ℕ → List ℕ → DcSteps → Previewed
 previewedBy (suc m) shift place stride at upper lower r = record { number = suc m; at = at; upper = upper; lower = lower }
-previewedBy zero shift place stride at upper lower badSteps = record { number = badCode; at = at; upper = upper; lower = lower }
+previewedBy zero shift place stride at upper lower badSteps = record { number = noCode; at = at; upper = upper; lower = lower }
 previewedBy zero shift place stride at upper lower (dcSteps ts q) =
     record {
       number = 0;
@@ -62,7 +63,7 @@ pub record Reported : Type 0 where
 
 abbrev pub reportedBy : ℕ → ℕ → List ℕ → Blocks → Reported
 reportedBy (suc m) at report r = record { number = suc m; at = at; report = report }
-reportedBy zero at report badBlocks = record { number = badCode; at = at; report = report }
+reportedBy zero at report badBlocks = record { number = noCode; at = at; report = report }
 reportedBy zero at report (blocks bs q r) = record { number = 0; at = bytesFor q; report = lay report 0 (map reportByte bs) }
 
 -- "made from a plane's AC stream alone"

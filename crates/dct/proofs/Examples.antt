@@ -7,12 +7,12 @@ use lib.IntN.{ℤ, pos}
 use lib.ListN.{replicate}
 use Rattle.scalar.specs.Scalar.{sat16, wrap16, wrap32, addOf, addsOf, subsOf, mulhiOf, mulloOf, sraOf, orOf, packusOf}
 use Rattle.scalar.specs.Tab.{tabFrom, tab}
-use Rattle.irow.specs.RowPass.{tab04, tab17, tab26, tab35, rowLane, rowsOf}
-use Rattle.idct.specs.column.Steps.{_▸_, oddOf, evenOf, sumOf, diffOf, joinOf, columnOf}
+use Rattle.irow.specs.RowPass.{tab04, tab17, tab26, tab35, rowLane, inverseRowsOf}
+use Rattle.idct.specs.column.Steps.{_▸_, inverseOddOf, inverseEvenOf, inverseSumOf, inverseDiffOf, inverseJoinOf, inverseColumnOf}
 use Rattle.paint.specs.Samples.{flatSample}
 use Rattle.tables.specs.Divisor.{baseMatrix, qualityFactors, divisor}
 use Rattle.quant.specs.Quantise.{dequantised, dequantiseBy}
-use Rattle.idct.specs.columns.Columns.{columnAt, columnsOf}
+use Rattle.idct.specs.columns.Columns.{inverseColumnAt, inverseColumnsOf}
 use Rattle.idct.specs.Inverse.{inverseOf}
 use Rattle.dct.specs.Decode.{blockSample}
 
@@ -26,7 +26,7 @@ flat = refl
 
 -- the first column, from the top
 transformed : tab 8 (λ k. blockSample false 0 (pos 0) onlyDc (8 * k)) ≡ 1 ∷ 1 ∷ 0 ∷ 0 ∷ 0 ∷ 1 ∷ 0 ∷ 0 ∷ []
-unfolding onlyDc blockSample dequantiseBy dequantised divisor baseMatrix qualityFactors inverseOf columnsOf columnAt columnOf joinOf oddOf evenOf sumOf diffOf _▸_ rowsOf rowLane tab04 tab17 tab26 tab35 tabFrom sat16 wrap16 wrap32 addsOf subsOf mulhiOf mulloOf sraOf orOf packusOf
+unfolding onlyDc blockSample dequantiseBy dequantised divisor baseMatrix qualityFactors inverseOf inverseColumnsOf inverseColumnAt inverseColumnOf inverseJoinOf inverseOddOf inverseEvenOf inverseSumOf inverseDiffOf _▸_ inverseRowsOf rowLane tab04 tab17 tab26 tab35 tabFrom sat16 wrap16 wrap32 addsOf subsOf mulhiOf mulloOf sraOf orOf packusOf
 transformed = refl
 
 -- "a DC of 1020 at level 128 gives .. 255 in a flat block"; the sums of 16 bits wrap before the clamp

@@ -1,15 +1,14 @@
 // A block of coefficients becomes 8 by 8 samples in the rows from its corner on: dequantising and the inverse transform (idct_core of
-// dct.rs), then the block writer of a depth. The divisors are tables::decode_numbers(preset)'s: a caller makes them once for a plane.
+// dct.rs), then the block writer of a depth. The divisors are those of tables::decode_numbers: a caller makes them once for a plane.
 // idct_core does both depths: where it has one caller, as in reading, the compiler makes it part of it and no block goes through memory.
 ghost use mathlib.Core.Path.{_≡_};
 ghost use mathlib.Core.Bool.{true, false};
-ghost use Prim.Native.Nat.{_+_, _*_, _≤_, _<_};
+ghost use Prim.Native.Nat.{_+_, _*_, _≤_};
 ghost use lib.IntN.{pos};
 ghost use lib.ListN.{length};
-ghost use Rattle.tables.specs.Divisor.{divisorsOf};
 ghost use Rattle.paint.specs.Paint.{storeBlock};
 ghost use Rattle.paint.specs.Samples.{flatSample};
-ghost use Rattle.quant.specs.Quantise.{dequantShift, dequantiseOf};
+ghost use Rattle.quant.specs.Quantise.{dequantShift, dequantiseWith};
 ghost use Rattle.idct.specs.Inverse.{inverseOf};
 ghost use Rattle.dct.specs.Decode.{numberSample};
 
@@ -20,12 +19,11 @@ fn dequant_shift(ten: bool) -> u32
     if ten { 2 } else { 4 }
 }
 
-// The numbers of a block of coefficients in natural order: dequantised and transformed, the level not added.
-pub fn idct_core(nat: [i16; 64], preset: usize, d: &[u16; 64], ten: bool) -> [i16; 64]
-    requires { ⌜ (preset < 25) × (now d ≡ divisorsOf preset) ⌝ }
-    ensures { λ r. ⌜ r ≡ inverseOf ten (pos 0) (dequantiseOf ten preset nat) ⌝ }
+// The numbers of a block of coefficients in natural order: dequantised by the divisors d and transformed, the level not added.
+pub fn idct_core(nat: [i16; 64], d: &[u16; 64], ten: bool) -> [i16; 64]
+    ensures { λ r. ⌜ r ≡ inverseOf ten (pos 0) (dequantiseWith (dequantShift ten) (now (d .entry)) nat) ⌝ }
 {
-    let a = quant::dequant(nat, preset, d, 0);
+    let a = quant::dequant(nat, d, 0);
     let n = dequant_shift(ten);
     idct::inverse(a, n, ten)
 }

@@ -5,20 +5,17 @@ use mathlib.Core.List.{List, [], _∷_}
 use Prim.Native.Nat.{ℕ, _≤_, _<_}
 use native.Mathlib.Omega.{arith}
 use lib.ListN.{length}
-use Rattle.calls.specs.Arguments.{Depth, PerStream, Buffers}
+use Rattle.calls.specs.Arguments.{Depth, PerStream, Buffers, settings, plane, positions, buffers}
 use Rattle.calls.specs.ReadPlane.{PlaneRead, badPlane, planeRead, readPlane}
 use Rattle.calls.specs.Grid.{blocksOf}
 use Rattle.slice.specs.Plane.{reconstruct}
 use Rattle.slice.specs.Calls.{PlanesRead, planesRead, byPlane, readPlanes, Decoded, rowsMade, decode, decodePlane}
 use Rattle.entropy.specs.declared.plane.Ends.{Ends}
-use Rattle.encplane.specs.Coding.{settings, plane}
-use Rattle.questions.specs.order.Order.{perStream}
-use Rattle.questions.specs.of_call.ByNumbers.{planeCall}
 use Rattle.questions.proofs.of_call.Passed.{ReadingLegal, reading-legal}
-use Rattle.judge.specs.Good.{buffers, positions}
 use Rattle.judge.proofs.verdict.Laws.{Passed, passed, refused-is, accepted-is}
 use Rattle.judge.proofs.verdict.Planes.{one-good}
 use Rattle.decplane.specs.store.Storing.{blocksGot, PlaneGood, PlaneStored}
+use Rattle.calls.specs.Views.{planeCall}
 
 module _ (depth : Depth) (preset shift place stride : ℕ) (rows dc : List ℕ) (d : ℕ) (ac : List ℕ) (a : ℕ) where
   abbrev numbered : ℕ → Type 0
@@ -34,7 +31,7 @@ module _ (depth : Depth) (preset shift place stride : ℕ) (rows dc : List ℕ) 
   unfolding readPlanes
   may-store e z =
       let p = through e z in
-      let l = reading-legal (planeCall depth preset shift place stride rows) (perStream (length dc) (length ac)) (perStream d a) (p .asked) in
+      let l = reading-legal (planeCall depth preset shift place stride rows) (positions (length dc) (length ac)) (positions d a) (p .asked) in
       record {
         preset-le = l .legal .preset-le;
         shift-le = l .legal .shift-le;

@@ -3,16 +3,14 @@ use mathlib.Core.Path.{_≡_, refl, sym, ap, _∙_}
 use mathlib.Core.List.{List, [], _∷_}
 use Prim.Native.Nat.{ℕ, _≤_, _<_}
 use lib.ListN.{length}
-use Rattle.calls.specs.Arguments.{Settings, Plane, planesOf, PerStream, Buffers}
+use Rattle.calls.specs.Arguments.{Settings, Plane, planesOf, PerStream, Buffers, settings, positions, buffers}
 use Rattle.slice.specs.Calls.{Decoded, decode}
 use Rattle.entropy.specs.declared.plane.Ends.{Ends}
-use Rattle.encplane.specs.Coding.{settings}
-use Rattle.questions.specs.order.Order.{perStream}
-use Rattle.questions.proofs.of_call.Passed.{LegalPlane, Every, ReadingLegal, reading-legal}
-use Rattle.judge.specs.Good.{buffers, positions}
+use Rattle.questions.proofs.of_call.Passed.{ReadingLegal, reading-legal}
 use Rattle.judge.proofs.verdict.Laws.{Passed, passed, refused-is, accepted-is}
 use Rattle.judge.proofs.verdict.Slices.{Given, call}
 use Rattle.decoder.specs.by_slice.SliceStoring.{AllFit, SliceGood, SliceStored}
+use Rattle.calls.specs.Legal.{LegalPlane, Every}
 
 all-fit : (ps : List Plane) → Every LegalPlane ps → AllFit ps
 all-fit [] e = tt
@@ -37,7 +35,7 @@ module _ (G : Given) where
   pub may-store : {n : ℕ} → numbered n → n ≡ 0 → SliceGood σ (G .count) (G .r0) (G .r1) (G .r2) (G .r3) (G .dc) (G .d) (G .ac) (G .a)
   may-store e z =
       let p = through e z in
-      let l = reading-legal (call G) (perStream (length (G .dc)) (length (G .ac))) (perStream (G .d) (G .a)) (p .asked) in
+      let l = reading-legal (call G) (positions (length (G .dc)) (length (G .ac))) (positions (G .d) (G .a)) (p .asked) in
       record {
         preset-le = l .legal .preset-le;
         shift-le = l .legal .shift-le;

@@ -1,9 +1,7 @@
 // The storing pass over a slice (decode_one_slice of decoder.rs) whose streams were judged good: the first `count` of four planes in order,
 // each from where the streams of the plane before end. The planes' places are their index.
 ghost use mathlib.Core.List.{[], _∷_};
-ghost use Rattle.calls.specs.Arguments.{eight, ten};
-ghost use Rattle.encplane.specs.Coding.{settings};
-ghost use Rattle.encoder.specs.by_slice.SliceCoding.{rows};
+ghost use Rattle.calls.specs.Arguments.{eight, ten, settings, rows};
 ghost use Rattle.decoder.specs.by_slice.SliceStoring.{SliceGood, SliceStored};
 use entropy::plane::Ends;
 

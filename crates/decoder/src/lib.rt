@@ -4,11 +4,8 @@ pub mod by_slice;
 
 ghost use mathlib.Core.Path.{_≡_};
 ghost use mathlib.Core.List.{[], _∷_};
-ghost use Rattle.calls.specs.Arguments.{eight, ten};
+ghost use Rattle.calls.specs.Arguments.{eight, ten, settings, plane, rows, buffers, positions};
 ghost use Rattle.slice.specs.Calls.{decodePlane, decodeSlice};
-ghost use Rattle.encplane.specs.Coding.{settings, plane};
-ghost use Rattle.encoder.specs.by_slice.SliceCoding.{rows};
-ghost use Rattle.judge.specs.Good.{buffers, positions};
 ghost use Rattle.questions.specs.answers.Read.{answered};
 pub use questions::answers::ReadAnswer;
 

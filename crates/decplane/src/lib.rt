@@ -1,8 +1,7 @@
 // The storing pass over a plane (decode_plane of slice.rs) whose streams were judged good, at each depth.
 pub mod store;
 
-ghost use Rattle.calls.specs.Arguments.{eight, ten};
-ghost use Rattle.encplane.specs.Coding.{settings, plane};
+ghost use Rattle.calls.specs.Arguments.{eight, ten, settings, plane};
 ghost use Rattle.decplane.specs.store.Storing.{PlaneGood, PlaneStored};
 use entropy::plane::Ends;
 

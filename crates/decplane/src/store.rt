@@ -1,9 +1,9 @@
 // One loop for both depths over a plane whose streams were judged good (decode_plane of slice.rs): blocks left to right, upper eight rows
 // first; each block is read from both streams and painted at its corner. The reader of a block has one caller, so that the compiler makes
 // it part of the loop and a block stays where it was read.
-ghost use Rattle.encplane.specs.Coding.{settings, plane};
-ghost use Rattle.write_block.specs.Depths.{depthOf, rowsOf};
+ghost use Rattle.write_block.specs.Depths.{depthOf, depthRows};
 ghost use Rattle.decplane.specs.store.Storing.{PlaneGood, PlaneStored};
+ghost use Rattle.calls.specs.Arguments.{settings, plane};
 use entropy::plane::Ends;
 
 // Stores a plane, read from the DC stream from d on and the AC stream from a on.
@@ -20,8 +20,8 @@ pub fn plane(
     ac: &[u8],
     a: usize,
 ) -> Ends
-    requires { ⌜ PlaneGood preset shift stride (rowsOf deep (now rows8) (now rows16)) (now dc) d (now ac) a ⌝ }
-    ensures { λ r. ⌜ PlaneStored (settings (depthOf deep) preset shift) (plane place stride (rowsOf deep (now (rows8 .entry)) (now (rows16 .entry)))) (now (dc .entry)) d (now (ac .entry)) a r (rowsOf deep (now (rows8 .exit)) (now (rows16 .exit))) ⌝ }
+    requires { ⌜ PlaneGood preset shift stride (depthRows deep (now rows8) (now rows16)) (now dc) d (now ac) a ⌝ }
+    ensures { λ r. ⌜ PlaneStored (settings (depthOf deep) preset shift) (plane place stride (depthRows deep (now (rows8 .entry)) (now (rows16 .entry)))) (now (dc .entry)) d (now (ac .entry)) a r (depthRows deep (now (rows8 .exit)) (now (rows16 .exit))) ⌝ }
 {
     let v = write_block::level_of(deep, place);
     let q = tables::decode_numbers(preset);
@@ -34,7 +34,7 @@ pub fn plane(
             let c = planes::corner(stride, j, k);
             let nat = g.nat;
             let flat = g.flat;
-            write_block::paint_at(deep, rows8, rows16, c, stride, nat, !flat, preset, &q, v);
+            write_block::paint_at(deep, rows8, rows16, c, stride, nat, !flat, &q, v);
             let next = g.next;
             s = next;
         }

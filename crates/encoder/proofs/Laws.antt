@@ -6,17 +6,17 @@ use native.Mathlib.Omega.{arith}
 use lib.ListN.{length}
 use Rattle.bits.specs.Lay.{lay}
 use Rattle.ask.specs.Ask.{firstNo}
-use Rattle.calls.specs.Arguments.{Depth, Plane, Call, settingsOf, planesOf}
+use Rattle.calls.specs.Arguments.{Depth, Plane, Call, settingsOf, planesOf, lengthsOf, settings, plane, rows, buffers, positions}
 use Rattle.calls.specs.Streams.{dcStream, acStream}
 use Rattle.slice.specs.Plane.{coefficients}
-use Rattle.calls.specs.Questions.{codingQuestions}
-use Rattle.slice.specs.Calls.{lengthsOf, ownStreams, encode, encodePlane}
-use Rattle.questions.specs.of_call.ByNumbers.{planeCall, sliceCall}
-use Rattle.questions.proofs.of_call.Passed.{LegalPlane, Every, coding-legal}
+use Rattle.slice.specs.Calls.{ownStreams, encode, encodePlane}
+use Rattle.questions.proofs.of_call.Passed.{coding-legal}
 use Rattle.entropy.specs.declared.plane.Ends.{Ends}
-use Rattle.encplane.specs.Coding.{settings, plane, PlaneOk, PlaneDone}
-use Rattle.encoder.specs.by_slice.SliceCoding.{rows, AllRowsLeft, SliceOk, SliceDone}
-use Rattle.questions.specs.answers.Streams.{buffers, positions}
+use Rattle.encplane.specs.Coding.{PlaneOk, PlaneDone}
+use Rattle.encoder.specs.by_slice.SliceCoding.{AllRowsLeft, SliceOk, SliceDone}
+use Rattle.slice.specs.Room.{codingQuestions}
+use Rattle.calls.specs.Views.{planeCall, sliceCall}
+use Rattle.calls.specs.Legal.{LegalPlane, Every}
 
 -- ---- any call
 module _ (c : Call) (dcs : List ℕ) (d : ℕ) (acs : List ℕ) (a : ℕ) where

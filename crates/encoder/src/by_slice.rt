@@ -1,8 +1,7 @@
 // The slice coder (encode_one_slice of encoder.rs) on slices that the questions let through: the first `count` of four planes in order,
 // each from where the streams of the plane before end. The planes' places are their index.
-ghost use Rattle.calls.specs.Arguments.{eight, ten};
-ghost use Rattle.encplane.specs.Coding.{settings};
-ghost use Rattle.encoder.specs.by_slice.SliceCoding.{rows, SliceOk, SliceDone};
+ghost use Rattle.calls.specs.Arguments.{eight, ten, settings, rows};
+ghost use Rattle.encoder.specs.by_slice.SliceCoding.{SliceOk, SliceDone};
 use entropy::plane::Ends;
 
 // Codes a slice of 8-bit planes, the DC stream from d on, the AC stream from a on.

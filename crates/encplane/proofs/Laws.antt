@@ -11,10 +11,9 @@ use lib.Seq.{getD-drop}
 use Rattle.scalar.proofs.Fill.{tab-ext}
 use Rattle.fdct.specs.Forward.{forwardOf, lanes8Of, lanes16Of}
 use Rattle.quant.specs.Quantise.{quantiseOf, scanOf}
-use Rattle.calls.specs.Arguments.{eight, ten}
+use Rattle.calls.specs.Arguments.{eight, ten, plane}
 use Rattle.calls.specs.Grid.{level}
 use Rattle.slice.specs.Plane.{lanesAt, blockCoefficients}
-use Rattle.encplane.specs.Coding.{plane}
 
 index : (j y stride k w : ℕ) → (8 * j + y) * stride + (8 * k + w) ≡ 8 * j * stride + 8 * k + (y * stride + w)
 index j y stride k w = let e : (8 * j + y) * stride ≡ 8 * j * stride + y * stride = add-mul (8 * j) y stride in omega arith

@@ -9,7 +9,7 @@ use lib.IntN.{ℤ, pos}
 use lib.ListN.{length, length-append}
 use Rattle.scalar.specs.Tab.{tab, tabFrom}
 use Rattle.scalar.proofs.Fill.{length-tab}
-use Rattle.calls.specs.Arguments.{Depth, Settings, Plane}
+use Rattle.calls.specs.Arguments.{Depth, Settings, Plane, settings, plane}
 use Rattle.calls.specs.Streams.{dcStream, acStream}
 use Rattle.calls.specs.Grid.{columnsOf, blocksOf}
 use Rattle.slice.specs.Plane.{blockCoefficients, coefficientsAt, coefficients}
@@ -21,7 +21,7 @@ use Rattle.entropy.specs.plane.Coded.{startOf, PlaneCoded, BlockRoom, EndRoom, 
 use Rattle.entropy.proofs.plane.Blocks.{coded-start}
 use Rattle.entropy.proofs.plane.Rooms.{Begun, block-room, begun-next, end-room}
 use Rattle.entropy.proofs.plane.Whole.{dc-whole, dc-ends, ac-whole, ac-ends}
-use Rattle.encplane.specs.Coding.{settings, plane, PlaneOk, PlaneDone}
+use Rattle.encplane.specs.Coding.{PlaneOk, PlaneDone}
 
 -- a table, one entry more
 tab-from : {A : Type 0} (g : ℕ → A) (k n : ℕ) → tabFrom g k (suc n) ≡ tabFrom g k n ++ (g (k + n) ∷ [])

@@ -10,12 +10,6 @@ use Rattle.calls.specs.Grid.{blocksOf}
 use Rattle.slice.specs.Plane.{coefficients}
 use Rattle.entropy.specs.declared.plane.Ends.{Ends}
 
-abbrev pub settings : Depth → ℕ → ℕ → Settings
-settings depth preset shift = record { depth = depth; preset = preset; shift = shift }
-
-abbrev pub plane : ℕ → ℕ → List ℕ → Plane
-plane place stride samples = record { place = place; stride = stride; samples = samples }
-
 -- what the questions leave of a plane: legal numbers, rows, and room for 4 and 197 bytes a block behind the positions d and a
 pub record PlaneOk (preset shift stride : ℕ) (rows dcs : List ℕ) (d : ℕ) (acs : List ℕ) (a : ℕ) : Type 0 where
   pub preset-le : preset ≤ 24

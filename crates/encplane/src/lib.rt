@@ -1,7 +1,7 @@
 // The plane coder (encode_plane of slice.rs) on planes that the questions let through: blocks left to right, upper eight rows first;
 // each block's coefficients go straight into both streams.
-ghost use Rattle.calls.specs.Arguments.{eight, ten};
-ghost use Rattle.encplane.specs.Coding.{settings, plane, PlaneOk, PlaneDone};
+ghost use Rattle.calls.specs.Arguments.{eight, ten, settings, plane};
+ghost use Rattle.encplane.specs.Coding.{PlaneOk, PlaneDone};
 use entropy::plane::Ends;
 
 // Codes an 8-bit plane, the DC stream from d on, the AC stream from a on.
@@ -26,7 +26,7 @@ pub fn plane8(
     for j in 0..2 {
         for i in 0..cols {
             let c = planes::corner(stride, j, i);
-            let z = dct::forward::fdct_quant_zig8(&rows[c..], stride, v, preset, &k);
+            let z = dct::forward::fdct_quant_zig8(&rows[c..], stride, v, &k);
             s = entropy::plane::code_block(s, z, shift, dcs, acs);
         }
     }
@@ -55,7 +55,7 @@ pub fn plane10(
     for j in 0..2 {
         for i in 0..cols {
             let c = planes::corner(stride, j, i);
-            let z = dct::forward::fdct_quant_zig16(&rows[c..], stride, v, preset, &k);
+            let z = dct::forward::fdct_quant_zig16(&rows[c..], stride, v, &k);
             s = entropy::plane::code_block(s, z, shift, dcs, acs);
         }
     }

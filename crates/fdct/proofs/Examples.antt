@@ -6,9 +6,9 @@ use lib.Dec.{eqb}
 use lib.IntN.{ℤ, pos, negsuc}
 use Rattle.scalar.specs.Scalar.{sat16, wrap32, addsOf, subsOf, mulhiOf, sllOf, orOf, sraOf}
 use Rattle.scalar.specs.Tab.{tab, tabFrom}
-use Rattle.fdct.specs.column.Steps.{_▸_, butterflyOf, evenOf, oddOf, columnOf}
-use Rattle.frow.specs.Rows.{ftab1, ftab2, ftab3, ftab4, tableAt, sideAt, dotOf, coefficientAt, rowsOf}
-use Rattle.fdct.specs.Forward.{levelOf, columnsOf, transformOf, forwardOf}
+use Rattle.fdct.specs.column.Steps.{_▸_, butterflyOf, forwardEvenOf, forwardOddOf, forwardColumnOf}
+use Rattle.frow.specs.Rows.{ftab1, ftab2, ftab3, ftab4, tableAt, sideAt, dotOf, coefficientAt, forwardRowsOf}
+use Rattle.fdct.specs.Forward.{levelShiftOf, forwardColumnsOf, transformOf, forwardOf}
 
 constant : forwardOf false (pos 128) (tab 64 (λ i. pos 255))
     ≡
@@ -20,7 +20,7 @@ constant : forwardOf false (pos 128) (tab 64 (λ i. pos 255))
     negsuc 1 ∷ pos 0 ∷ pos 0 ∷ pos 0 ∷ pos 0 ∷ pos 0 ∷ pos 0 ∷ pos 0 ∷
     pos 3 ∷ pos 0 ∷ pos 0 ∷ pos 0 ∷ pos 0 ∷ pos 0 ∷ pos 0 ∷ pos 0 ∷
     pos 0 ∷ pos 0 ∷ pos 0 ∷ pos 0 ∷ pos 0 ∷ pos 0 ∷ pos 0 ∷ pos 0 ∷ []
-unfolding forwardOf transformOf rowsOf coefficientAt dotOf sideAt tableAt ftab1 ftab2 ftab3 ftab4 columnsOf levelOf columnOf butterflyOf evenOf oddOf _▸_ tabFrom sat16 wrap32 addsOf subsOf mulhiOf sllOf orOf sraOf
+unfolding forwardOf transformOf forwardRowsOf coefficientAt dotOf sideAt tableAt ftab1 ftab2 ftab3 ftab4 forwardColumnsOf levelShiftOf forwardColumnOf butterflyOf forwardEvenOf forwardOddOf _▸_ tabFrom sat16 wrap32 addsOf subsOf mulhiOf sllOf orOf sraOf
 constant = refl
 
 impulse : forwardOf true (pos 0) (tab 64 (λ i. cond (eqb i 19) (pos 1000) (pos 0)))
@@ -33,7 +33,7 @@ impulse : forwardOf true (pos 0) (tab 64 (λ i. cond (eqb i 19) (pos 1000) (pos 
     pos 136 ∷ pos 38 ∷ negsuc 180 ∷ negsuc 108 ∷ pos 138 ∷ pos 162 ∷ negsuc 74 ∷ negsuc 191 ∷
     pos 656 ∷ pos 180 ∷ negsuc 853 ∷ negsuc 512 ∷ pos 653 ∷ pos 768 ∷ negsuc 353 ∷ negsuc 905 ∷
     pos 588 ∷ pos 162 ∷ negsuc 767 ∷ negsuc 461 ∷ pos 588 ∷ pos 692 ∷ negsuc 317 ∷ negsuc 815 ∷ []
-unfolding forwardOf transformOf rowsOf coefficientAt dotOf sideAt tableAt ftab1 ftab2 ftab3 ftab4 columnsOf levelOf columnOf butterflyOf evenOf oddOf _▸_ tabFrom sat16 wrap32 addsOf subsOf mulhiOf sllOf orOf sraOf
+unfolding forwardOf transformOf forwardRowsOf coefficientAt dotOf sideAt tableAt ftab1 ftab2 ftab3 ftab4 forwardColumnsOf levelShiftOf forwardColumnOf butterflyOf forwardEvenOf forwardOddOf _▸_ tabFrom sat16 wrap32 addsOf subsOf mulhiOf sllOf orOf sraOf
 impulse = refl
 
 ends : List ℤ
@@ -57,7 +57,7 @@ ends8 : forwardOf false (pos 128) ends
     negsuc 10 ∷ pos 1 ∷ pos 4 ∷ pos 4 ∷ negsuc 3 ∷ pos 0 ∷ negsuc 0 ∷ pos 0 ∷
     negsuc 1342 ∷ pos 0 ∷ negsuc 523 ∷ pos 0 ∷ pos 8 ∷ pos 0 ∷ negsuc 1244 ∷ pos 0 ∷
     negsuc 5 ∷ pos 0 ∷ negsuc 1 ∷ negsuc 4 ∷ pos 0 ∷ pos 1 ∷ negsuc 4 ∷ negsuc 0 ∷ []
-unfolding forwardOf transformOf rowsOf coefficientAt dotOf sideAt tableAt ftab1 ftab2 ftab3 ftab4 columnsOf levelOf columnOf butterflyOf evenOf oddOf _▸_ tabFrom sat16 wrap32 addsOf subsOf mulhiOf sllOf orOf sraOf ends
+unfolding forwardOf transformOf forwardRowsOf coefficientAt dotOf sideAt tableAt ftab1 ftab2 ftab3 ftab4 forwardColumnsOf levelShiftOf forwardColumnOf butterflyOf forwardEvenOf forwardOddOf _▸_ tabFrom sat16 wrap32 addsOf subsOf mulhiOf sllOf orOf sraOf ends
 ends8 = refl
 
 ends10 : forwardOf true (pos 512) ends
@@ -70,5 +70,5 @@ ends10 : forwardOf true (pos 512) ends
     negsuc 4 ∷ pos 0 ∷ pos 1 ∷ pos 2 ∷ negsuc 0 ∷ pos 0 ∷ pos 0 ∷ negsuc 0 ∷
     negsuc 1337 ∷ pos 0 ∷ negsuc 514 ∷ pos 0 ∷ pos 3 ∷ pos 0 ∷ negsuc 1236 ∷ pos 0 ∷
     negsuc 1 ∷ pos 0 ∷ pos 0 ∷ negsuc 0 ∷ pos 0 ∷ pos 0 ∷ negsuc 1 ∷ pos 0 ∷ []
-unfolding forwardOf transformOf rowsOf coefficientAt dotOf sideAt tableAt ftab1 ftab2 ftab3 ftab4 columnsOf levelOf columnOf butterflyOf evenOf oddOf _▸_ tabFrom sat16 wrap32 addsOf subsOf mulhiOf sllOf orOf sraOf ends
+unfolding forwardOf transformOf forwardRowsOf coefficientAt dotOf sideAt tableAt ftab1 ftab2 ftab3 ftab4 forwardColumnsOf levelShiftOf forwardColumnOf butterflyOf forwardEvenOf forwardOddOf _▸_ tabFrom sat16 wrap32 addsOf subsOf mulhiOf sllOf orOf sraOf ends
 ends10 = refl

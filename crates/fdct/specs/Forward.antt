@@ -7,11 +7,11 @@ use Prim.Native.Nat.{ℕ, zero, suc, _+_, _*_, _/_, _%_}
 use lib.IntN.{ℤ, pos, negℤ}
 use lib.ListN.{getD}
 use Rattle.scalar.specs.Tab.{tab}
-use Rattle.fdct.specs.column.Steps.{columnOf}
+use Rattle.fdct.specs.column.Steps.{forwardColumnOf}
 use Rattle.fdct.specs.declared.column.Lanes.{Lanes}
-use Rattle.frow.specs.Rows.{at, rowsOf}
+use Rattle.frow.specs.Rows.{at, forwardRowsOf}
 pub use Rattle.fdct.specs.levels.Level.{levelAt}
-unfoldable pub use Rattle.fdct.specs.levels.Level.{levelOf}
+unfoldable pub use Rattle.fdct.specs.levels.Level.{levelShiftOf}
 
 -- "A u8 sample is its own lane; a u16 sample's lane is the sample shifted right by 6": the block at the corner of the rows
 abbrev pub lane8At : List ℕ → ℕ → ℕ → ℤ
@@ -27,8 +27,8 @@ unfoldable pub lanes16Of : List ℕ → ℕ → List ℤ
 lanes16Of rows stride = tab 64 (lane16At rows stride)
 
 -- the column pass of column j
-abbrev pub columnAt : ℕ → List ℤ → ℕ → Lanes
-columnAt shift b j = columnOf shift (at b j) (at b (j + 8)) (at b (j + 16)) (at b (j + 24)) (at b (j + 32)) (at b (j + 40)) (at b (j + 48)) (at b (j + 56))
+abbrev pub forwardColumnAt : ℕ → List ℤ → ℕ → Lanes
+forwardColumnAt shift b j = forwardColumnOf shift (at b j) (at b (j + 8)) (at b (j + 16)) (at b (j + 24)) (at b (j + 32)) (at b (j + 40)) (at b (j + 48)) (at b (j + 56))
 
 -- row r of a column
 abbrev pub laneAt : Lanes → ℕ → ℤ
@@ -43,14 +43,14 @@ laneAt v (suc (suc (suc (suc (suc (suc (suc r))))))) = v .v7
 
 -- the column pass of a block
 abbrev pub columnsAt : ℕ → List ℤ → ℕ → ℤ
-columnsAt shift b i = laneAt (columnAt shift b (i % 8)) (i / 8)
+columnsAt shift b i = laneAt (forwardColumnAt shift b (i % 8)) (i / 8)
 
-unfoldable pub columnsOf : ℕ → List ℤ → List ℤ
-columnsOf shift b = tab 64 (columnsAt shift b)
+unfoldable pub forwardColumnsOf : ℕ → List ℤ → List ℤ
+forwardColumnsOf shift b = tab 64 (columnsAt shift b)
 
 -- level shift, column pass, row pass
 unfoldable pub transformOf : ℕ → ℤ → List ℤ → List ℤ
-transformOf shift add b = rowsOf (columnsOf shift (levelOf add b))
+transformOf shift add b = forwardRowsOf (forwardColumnsOf shift (levelShiftOf add b))
 
 -- the column pass shifts by 3 for 8-bit samples, by 1 for 10-bit samples
 abbrev pub columnShift : Bool → ℕ

@@ -2,7 +2,7 @@
 // The steps and their order are the Rust's; `shift` is 3 for 8-bit samples and 1 for 10-bit samples.
 ghost use mathlib.Core.Path.{_≡_};
 ghost use Prim.Native.Nat.{_<_};
-ghost use Rattle.fdct.specs.column.Steps.{butterflyOf, evenOf, oddOf, columnOf};
+ghost use Rattle.fdct.specs.column.Steps.{butterflyOf, forwardEvenOf, forwardOddOf, forwardColumnOf};
 use scalar::adds1;
 use scalar::mulhi1;
 use scalar::or1;
@@ -80,7 +80,7 @@ pub fn butterfly(x0: i16, x1: i16, x2: i16, x3: i16, x4: i16, x5: i16, x6: i16, 
 // Rows 0, 2, 4 and 6 of the column.
 pub fn even(tp03: i16, tp12: i16, tm03: i16, tm12: i16, shift: u32) -> Evens
     requires { ⌜ shift < 15 ⌝ }
-    ensures { λ r. ⌜ r ≡ evenOf shift tp03 tp12 tm03 tm12 ⌝ }
+    ensures { λ r. ⌜ r ≡ forwardEvenOf shift tp03 tp12 tm03 tm12 ⌝ }
 {
     let p03 = sll16(tp03, shift);
     let p12 = sll16(tp12, shift);
@@ -101,7 +101,7 @@ pub fn even(tp03: i16, tp12: i16, tm03: i16, tm12: i16, shift: u32) -> Evens
 // Rows 1, 3, 5 and 7 of the column.
 pub fn odd(d0: i16, d1: i16, d2: i16, d3: i16, shift: u32) -> Odds
     requires { ⌜ shift < 15 ⌝ }
-    ensures { λ r. ⌜ r ≡ oddOf shift d0 d1 d2 d3 ⌝ }
+    ensures { λ r. ⌜ r ≡ forwardOddOf shift d0 d1 d2 d3 ⌝ }
 {
     let more = shift + 1;
     let x2 = sll16(d2, more);
@@ -144,7 +144,7 @@ pub fn column(
     shift: u32,
 ) -> Lanes
     requires { ⌜ shift < 15 ⌝ }
-    ensures { λ r. ⌜ r ≡ columnOf shift x0 x1 x2 x3 x4 x5 x6 x7 ⌝ }
+    ensures { λ r. ⌜ r ≡ forwardColumnOf shift x0 x1 x2 x3 x4 x5 x6 x7 ⌝ }
 {
     let b = butterfly(x0, x1, x2, x3, x4, x5, x6, x7);
     let e = even(b.tp03, b.tp12, b.tm03, b.tm12, shift);

@@ -5,13 +5,13 @@ pub mod load;
 
 ghost use mathlib.Core.Path.{_≡_};
 ghost use Prim.Native.Nat.{_<_};
-ghost use Rattle.fdct.specs.Forward.{columnsOf, transformOf};
+ghost use Rattle.fdct.specs.Forward.{forwardColumnsOf, transformOf};
 use crate::levels::level;
 
 // The column pass, one column a turn.
 pub fn columns(b: [i16; 64], shift: u32) -> [i16; 64]
     requires { ⌜ shift < 15 ⌝ }
-    ensures { λ r. ⌜ r ≡ columnsOf shift b ⌝ }
+    ensures { λ r. ⌜ r ≡ forwardColumnsOf shift b ⌝ }
 {
     let mut c = [0i16; 64];
     for j in 0..8 {

@@ -12,9 +12,9 @@ use borrow.Author.Tests.{eqb-true, eqb-false}
 use Rattle.scalar.specs.Scalar.{sat16, maddOf, add32Of, sraOf}
 use Rattle.scalar.proofs.Fill.{getD-tab, tab-ext}
 use Rattle.frow.specs.tails.Tail.{tailOf}
-use Rattle.frow.specs.order.Order.{mirrorOf, sumsOf, diffsOf, spreadOf, pairsOf, halfOf, joinOf}
+use Rattle.frow.specs.order.Order.{forwardMirrorOf, sumsOf, diffsOf, forwardSpreadOf, forwardPairsOf, forwardHalfOf, forwardJoinOf}
 use Rattle.frow.proofs.order.Opposite.{sum-side, diff-side}
-use Rattle.frow.specs.Rows.{at, sideAt, tableAt, dotOf, entryOf, nearOf, farOf, coefficientAt, rowsOf}
+use Rattle.frow.specs.Rows.{at, sideAt, tableAt, dotOf, entryOf, nearOf, farOf, coefficientAt, forwardRowsOf}
 use Rattle.frow.specs.Parts.{tablePart}
 use Rattle.frow.proofs.Wrap.{four}
 
@@ -37,8 +37,8 @@ far-of q o e g h =
 odd-one : (j o : ℕ) → o < 2 → (2 * j + o) % 2 ≡ o
 odd-one j o h = omega arith
 
-spread-at : (x : List ℤ) (from q e j k : ℕ) → q < 32 → e < 2 → j ≡ 2 * q + e → (2 * q + e + from) % 4 ≡ k → at (spreadOf x from) j ≡ at x (8 * (q / 4) + k)
-unfolding spreadOf
+spread-at : (x : List ℤ) (from q e j k : ℕ) → q < 32 → e < 2 → j ≡ 2 * q + e → (2 * q + e + from) % 4 ≡ k → at (forwardSpreadOf x from) j ≡ at x (8 * (q / 4) + k)
+unfolding forwardSpreadOf
 spread-at x from q e j k h l t g =
     let a : j / 8 ≡ q / 4 = omega arith in
     getD-tab 64 _ j (pos 0) (omega arith) ∙ rw (a, t, g) refl
@@ -56,17 +56,17 @@ module _ (b : List ℤ) (o : ℕ) (small : o < 2) (x : List ℤ) (sides : (r k u
   abbrev coefficient : ℕ → ℕ
   coefficient q = 2 * (q % 4) + o
 
-  side : (from q e j k : ℕ) → q < 32 → e < 2 → j ≡ 2 * q + e → (2 * q + e + from) % 4 ≡ k → at (spreadOf x from) j ≡ sideAt b (q / 4) (coefficient q) k
+  side : (from q e j k : ℕ) → q < 32 → e < 2 → j ≡ 2 * q + e → (2 * q + e + from) % 4 ≡ k → at (forwardSpreadOf x from) j ≡ sideAt b (q / 4) (coefficient q) k
   side from q e j k h l t g =
       spread-at x from q e j k h l t g ∙ sides (q / 4) k (coefficient q) (omega arith) (omega arith) (odd-one (q % 4) o small)
 
-  half-at : (q : ℕ) → q < 32 → at (halfOf (pairsOf (spreadOf x 0) (tablePart o 0)) (pairsOf (spreadOf x 2) (tablePart o 1))) q ≡ coefficientAt b (q / 4) (coefficient q)
-  unfolding halfOf pairsOf coefficientAt
+  half-at : (q : ℕ) → q < 32 → at (forwardHalfOf (forwardPairsOf (forwardSpreadOf x 0) (tablePart o 0)) (forwardPairsOf (forwardSpreadOf x 2) (tablePart o 1))) q ≡ coefficientAt b (q / 4) (coefficient q)
+  unfolding forwardHalfOf forwardPairsOf coefficientAt
   half-at q l =
       getD-tab 32 _ q (pos 0) l
       ∙ rw (
-        getD-tab 32 (λ i. maddOf (at (spreadOf x 0) (2 * i)) (at (tablePart o 0) (2 * i)) (at (spreadOf x 0) (2 * i + 1)) (at (tablePart o 0) (2 * i + 1))) q (pos 0) l,
-        getD-tab 32 (λ i. maddOf (at (spreadOf x 2) (2 * i)) (at (tablePart o 1) (2 * i)) (at (spreadOf x 2) (2 * i + 1)) (at (tablePart o 1) (2 * i + 1))) q (pos 0) l,
+        getD-tab 32 (λ i. maddOf (at (forwardSpreadOf x 0) (2 * i)) (at (tablePart o 0) (2 * i)) (at (forwardSpreadOf x 0) (2 * i + 1)) (at (tablePart o 0) (2 * i + 1))) q (pos 0) l,
+        getD-tab 32 (λ i. maddOf (at (forwardSpreadOf x 2) (2 * i)) (at (tablePart o 1) (2 * i)) (at (forwardSpreadOf x 2) (2 * i + 1)) (at (tablePart o 1) (2 * i + 1))) q (pos 0) l,
       )
       (tail-dot _ _ _ _ _ _ _ _
       ∙ rw (
@@ -83,19 +83,19 @@ module _ (b : List ℤ) (o : ℕ) (small : o < 2) (x : List ℤ) (sides : (r k u
 -- the whole row pass
 module _ (b : List ℤ) where
   abbrev even : List ℤ
-  even = halfOf (pairsOf (spreadOf (sumsOf b (mirrorOf b)) 0) (tablePart 0 0)) (pairsOf (spreadOf (sumsOf b (mirrorOf b)) 2) (tablePart 0 1))
+  even = forwardHalfOf (forwardPairsOf (forwardSpreadOf (sumsOf b (forwardMirrorOf b)) 0) (tablePart 0 0)) (forwardPairsOf (forwardSpreadOf (sumsOf b (forwardMirrorOf b)) 2) (tablePart 0 1))
 
   abbrev odd : List ℤ
-  odd = halfOf (pairsOf (spreadOf (diffsOf b (mirrorOf b)) 0) (tablePart 1 0)) (pairsOf (spreadOf (diffsOf b (mirrorOf b)) 2) (tablePart 1 1))
+  odd = forwardHalfOf (forwardPairsOf (forwardSpreadOf (diffsOf b (forwardMirrorOf b)) 0) (tablePart 1 0)) (forwardPairsOf (forwardSpreadOf (diffsOf b (forwardMirrorOf b)) 2) (tablePart 1 1))
 
   even-at : (q : ℕ) → q < 32 → at even q ≡ coefficientAt b (q / 4) (2 * (q % 4) + 0)
-  even-at q l = half-at b 0 (omega arith) (sumsOf b (mirrorOf b)) (λ r k u. sum-side b r k u) q l
+  even-at q l = half-at b 0 (omega arith) (sumsOf b (forwardMirrorOf b)) (λ r k u. sum-side b r k u) q l
 
   odd-at : (q : ℕ) → q < 32 → at odd q ≡ coefficientAt b (q / 4) (2 * (q % 4) + 1)
-  odd-at q l = half-at b 1 (omega arith) (diffsOf b (mirrorOf b)) (λ r k u. diff-side b r k u) q l
+  odd-at q l = half-at b 1 (omega arith) (diffsOf b (forwardMirrorOf b)) (λ r k u. diff-side b r k u) q l
 
-  pub rows-is : joinOf even odd ≡ rowsOf b
-  unfolding joinOf rowsOf
+  pub rows-is : forwardJoinOf even odd ≡ forwardRowsOf b
+  unfolding forwardJoinOf forwardRowsOf
   rows-is = tab-ext 64 (λ i l. go i l (eqb (i % 2) 0) refl)
     where
       go : (i : ℕ) → i < 64 → (t : Bool) → eqb (i % 2) 0 ≡ t → sel (eqb (i % 2) 0) (at even (i / 2)) (at odd (i / 2)) ≡ coefficientAt b (i / 8) (i % 8)
@@ -112,8 +112,8 @@ module _ (b : List ℤ) where
           rw e (odd-at (i / 2) (omega arith) ∙ rw (a, c) refl)
 
 -- the same, from what each step of the code returns
-pub row-law : (b : List ℤ) {z s d x0 x2 y0 y2 m0 m1 m2 m3 even odd r : List ℤ} → z ≡ mirrorOf b → s ≡ sumsOf b z → d ≡ diffsOf b z
-    → x0 ≡ spreadOf s 0 → m0 ≡ pairsOf x0 (tablePart 0 0) → x2 ≡ spreadOf s 2 → m1 ≡ pairsOf x2 (tablePart 0 1) → even ≡ halfOf m0 m1
-    → y0 ≡ spreadOf d 0 → m2 ≡ pairsOf y0 (tablePart 1 0) → y2 ≡ spreadOf d 2 → m3 ≡ pairsOf y2 (tablePart 1 1) → odd ≡ halfOf m2 m3
-    → r ≡ joinOf even odd → r ≡ rowsOf b
+pub row-law : (b : List ℤ) {z s d x0 x2 y0 y2 m0 m1 m2 m3 even odd r : List ℤ} → z ≡ forwardMirrorOf b → s ≡ sumsOf b z → d ≡ diffsOf b z
+    → x0 ≡ forwardSpreadOf s 0 → m0 ≡ forwardPairsOf x0 (tablePart 0 0) → x2 ≡ forwardSpreadOf s 2 → m1 ≡ forwardPairsOf x2 (tablePart 0 1) → even ≡ forwardHalfOf m0 m1
+    → y0 ≡ forwardSpreadOf d 0 → m2 ≡ forwardPairsOf y0 (tablePart 1 0) → y2 ≡ forwardSpreadOf d 2 → m3 ≡ forwardPairsOf y2 (tablePart 1 1) → odd ≡ forwardHalfOf m2 m3
+    → r ≡ forwardJoinOf even odd → r ≡ forwardRowsOf b
 row-law b e1 e2 e3 a0 a1 a2 a3 a4 b0 b1 b2 b3 b4 e = e ∙ rw (a4, b4, a1, a3, b1, b3, a0, a2, b0, b2, e2, e3, e1) (rows-is b)

@@ -6,8 +6,8 @@ use Rattle.scalar.specs.Tab.{tab}
 use Rattle.frow.specs.Rows.{tableAt, entryOf}
 
 -- of each row, two numbers for each of the coefficients 2 j + o: those for the lanes near it (f is 0), or for the rest (1)
-abbrev pub partAt : ℕ → ℕ → ℕ → ℤ
-partAt o f i = tableAt (i / 8) (entryOf (2 * (i / 2 % 4) + o) + 8 * f + i % 2)
+abbrev pub tablePartAt : ℕ → ℕ → ℕ → ℤ
+tablePartAt o f i = tableAt (i / 8) (entryOf (2 * (i / 2 % 4) + o) + 8 * f + i % 2)
 
 unfoldable pub tablePart : ℕ → ℕ → List ℤ
-tablePart o f = tab 64 (partAt o f)
+tablePart o f = tab 64 (tablePartAt o f)

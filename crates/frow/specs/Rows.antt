@@ -84,5 +84,5 @@ coefficientAt b r u =
     (tableAt r (entryOf u + 9))
 
 -- the row pass of a block
-unfoldable pub rowsOf : List ℤ → List ℤ
-rowsOf b = tab 64 (λ i. coefficientAt b (i / 8) (i % 8))
+unfoldable pub forwardRowsOf : List ℤ → List ℤ
+forwardRowsOf b = tab 64 (λ i. coefficientAt b (i / 8) (i % 8))

@@ -4,7 +4,7 @@ mod parts;
 pub mod tails;
 
 ghost use mathlib.Core.Path.{_≡_};
-ghost use Rattle.frow.specs.Rows.{rowsOf};
+ghost use Rattle.frow.specs.Rows.{forwardRowsOf};
 use crate::order::diffs;
 use crate::order::half;
 use crate::order::join;
@@ -15,7 +15,7 @@ use crate::order::sums;
 
 // The row pass of a block.
 pub fn row_pass(c: [i16; 64]) -> [i16; 64]
-    ensures { λ r. ⌜ r ≡ rowsOf c ⌝ }
+    ensures { λ r. ⌜ r ≡ forwardRowsOf c ⌝ }
 {
     let z = mirror(c);
     let s = sums(c, z);

@@ -3,7 +3,7 @@
 // The Rust's shuffles gave way to loops over whole blocks, which the compiler turns into vector instructions.
 ghost use mathlib.Core.Path.{_≡_};
 ghost use Prim.Native.Nat.{_≤_};
-ghost use Rattle.frow.specs.order.Order.{mirrorOf, sumsOf, diffsOf, spreadOf, pairsOf, halfOf, joinOf};
+ghost use Rattle.frow.specs.order.Order.{forwardMirrorOf, sumsOf, diffsOf, forwardSpreadOf, forwardPairsOf, forwardHalfOf, forwardJoinOf};
 use crate::tails::tail;
 use scalar::adds1;
 use scalar::madd1;
@@ -11,7 +11,7 @@ use scalar::subs1;
 
 // Each row from right to left.
 pub fn mirror(c: [i16; 64]) -> [i16; 64]
-    ensures { λ r. ⌜ r ≡ mirrorOf c ⌝ }
+    ensures { λ r. ⌜ r ≡ forwardMirrorOf c ⌝ }
 {
     let mut x = [0i16; 64];
     for r in 0..8 {
@@ -47,7 +47,7 @@ pub fn diffs(c: [i16; 64], z: [i16; 64]) -> [i16; 64]
 // The left half of each row twice, from place `from` on: from place 2 on, its two pairs stand swapped.
 pub fn spread(a: [i16; 64], from: usize) -> [i16; 64]
     requires { ⌜ from ≤ 2 ⌝ }
-    ensures { λ r. ⌜ r ≡ spreadOf a from ⌝ }
+    ensures { λ r. ⌜ r ≡ forwardSpreadOf a from ⌝ }
 {
     let mut x = [0i16; 64];
     for r in 0..8 {
@@ -61,7 +61,7 @@ pub fn spread(a: [i16; 64], from: usize) -> [i16; 64]
 // Products of neighbours, added in pairs. The second product stands first: so the compiler takes both factors as they lie side
 // by side (pmaddwd).
 pub fn pairs(x: [i16; 64], t: [i16; 64]) -> [i32; 32]
-    ensures { λ r. ⌜ r ≡ pairsOf x t ⌝ }
+    ensures { λ r. ⌜ r ≡ forwardPairsOf x t ⌝ }
 {
     let mut m = [0i32; 32];
     for i in 0..32 {
@@ -72,7 +72,7 @@ pub fn pairs(x: [i16; 64], t: [i16; 64]) -> [i32; 32]
 
 // The same for each two pairs of a block.
 pub fn half(m: [i32; 32], n: [i32; 32]) -> [i16; 32]
-    ensures { λ r. ⌜ r ≡ halfOf m n ⌝ }
+    ensures { λ r. ⌜ r ≡ forwardHalfOf m n ⌝ }
 {
     let mut w = [0i16; 32];
     for i in 0..32 {
@@ -83,7 +83,7 @@ pub fn half(m: [i32; 32], n: [i32; 32]) -> [i16; 32]
 
 // Coefficients from `even` and from `odd` in turn.
 pub fn join(even: [i16; 32], odd: [i16; 32]) -> [i16; 64]
-    ensures { λ r. ⌜ r ≡ joinOf even odd ⌝ }
+    ensures { λ r. ⌜ r ≡ forwardJoinOf even odd ⌝ }
 {
     let mut w = [0i16; 64];
     for r in 0..8 {

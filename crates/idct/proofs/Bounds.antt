@@ -15,24 +15,24 @@ use Rattle.scalar.specs.Scalar.{addsOf, packusOf, minOf, maxOf}
 use Rattle.scalar.specs.Tab.{tab}
 use Rattle.scalar.proofs.Laws.{back}
 use Rattle.scalar.proofs.Fill.{length-tab, getD-tab, tab-ext}
-use Rattle.irow.specs.RowPass.{lane, rowsOf}
-use Rattle.irow.specs.Stages.{pairUpOf, shiftedOf, mirrorOf, pairedRows, inverseTab}
+use Rattle.irow.specs.RowPass.{lane, inverseRowsOf}
+use Rattle.irow.specs.Stages.{pairUpOf, shiftedOf, inverseMirrorOf, pairedRows, inverseTab}
 use Rattle.irow.proofs.Pass.{rows-law, shift-law}
 use Rattle.paint.specs.Samples.{tenOf, sampleOf, flatSample}
 use Rattle.paint.specs.Paint.{sampleAt}
-use Rattle.idct.specs.columns.Columns.{eightAt, columnAt, columnsOf, levelOf}
+use Rattle.idct.specs.columns.Columns.{eightAt, inverseColumnAt, inverseColumnsOf, levelAddedOf}
 use Rattle.idct.proofs.columns.Mirror.{columns-mirror}
 use Rattle.idct.proofs.columns.Level.{columns-level}
 use Rattle.idct.specs.Inverse.{rowRound, rowShift, colRound, colCorr, colShift, roundingsOf, inverseOf, samplesOf}
 use Rattle.idct.specs.declared.Roundings.{Roundings}
 
-pub length-columns : (round corr : ℤ) (shift : ℕ) (level : ℤ) (w : List ℤ) → length (columnsOf round corr shift level w) ≡ 64
-unfolding columnsOf
-length-columns round corr shift level w = length-tab 64 (λ i. eightAt (columnAt round corr shift level w (i % 8)) (i / 8))
+pub length-columns : (round corr : ℤ) (shift : ℕ) (level : ℤ) (w : List ℤ) → length (inverseColumnsOf round corr shift level w) ≡ 64
+unfolding inverseColumnsOf
+length-columns round corr shift level w = length-tab 64 (λ i. eightAt (inverseColumnAt round corr shift level w (i % 8)) (i / 8))
 
 pub length-inverse : (ten : Bool) (level : ℤ) (a : List ℤ) → length (inverseOf ten level a) ≡ 64
 unfolding inverseOf
-length-inverse ten level a = length-columns (colRound ten) (colCorr ten) (colShift ten) level (rowsOf (rowRound ten) (rowShift ten) a)
+length-inverse ten level a = length-columns (colRound ten) (colCorr ten) (colShift ten) level (inverseRowsOf (rowRound ten) (rowShift ten) a)
 
 pub length-samples : (ten : Bool) (v : List ℤ) → length (samplesOf ten v) ≡ 64
 unfolding samplesOf
@@ -98,13 +98,13 @@ from-zero (pos n) =
 from-zero (negsuc n) = refl
 
 -- the samples of numbers whose level was still to be added
-pub level-samples : (ten : Bool) (level : ℤ) (v : List ℤ) → tab 64 (λ i. sampleOf ten (addsOf (lane v i) level)) ≡ samplesOf ten (levelOf level v)
-unfolding samplesOf levelOf
+pub level-samples : (ten : Bool) (level : ℤ) (v : List ℤ) → tab 64 (λ i. sampleOf ten (addsOf (lane v i) level)) ≡ samplesOf ten (levelAddedOf level v)
+unfolding samplesOf levelAddedOf
 level-samples ten level v = tab-ext 64 (λ i h. ap (sampleOf ten) (sym (getD-tab 64 (λ i. addsOf (lane v i) level) i (pos 0) h)))
 
-pub level-law : (ten : Bool) (level : ℤ) (a : List ℤ) → levelOf level (inverseOf ten (pos 0) a) ≡ inverseOf ten level a
+pub level-law : (ten : Bool) (level : ℤ) (a : List ℤ) → levelAddedOf level (inverseOf ten (pos 0) a) ≡ inverseOf ten level a
 unfolding inverseOf
-level-law ten level a = columns-level (colRound ten) (colCorr ten) (colShift ten) level (rowsOf (rowRound ten) (rowShift ten) a)
+level-law ten level a = columns-level (colRound ten) (colCorr ten) (colShift ten) level (inverseRowsOf (rowRound ten) (rowShift ten) a)
 
 -- the roundings as a call hands them on: each read back from its bits
 of-rows : (ten : Bool) (k : Roundings) (l t : List ℤ) → k ≡ roundingsOf ten → pairedRows (back w32 (k .«row_round»)) (k .«row_shift») l t ≡ pairedRows (rowRound ten) (rowShift ten) l t
@@ -112,18 +112,18 @@ of-rows false k l t e = rw e refl
 of-rows true k l t e = rw e refl
 
 of-columns : (ten : Bool) (k : Roundings) (level : ℤ) (l : List ℤ) → k ≡ roundingsOf ten
-    → columnsOf (back w16 (k .round)) (back w16 (k .corr)) (k .shift) level l ≡ columnsOf (colRound ten) (colCorr ten) (colShift ten) level l
+    → inverseColumnsOf (back w16 (k .round)) (back w16 (k .corr)) (k .shift) level l ≡ inverseColumnsOf (colRound ten) (colCorr ten) (colShift ten) level l
 of-columns false k level l e = rw e refl
 of-columns true k level l e = rw e refl
 
 -- the passes in order
 pub whole : (ten : Bool) (n : ℕ) (a : List ℤ) (k : Roundings) {b w v r : List ℤ} → k ≡ roundingsOf ten → b ≡ pairUpOf a
-    → w ≡ pairedRows (back w32 (k .«row_round»)) (k .«row_shift») (shiftedOf n b) inverseTab → v ≡ columnsOf (back w16 (k .round)) (back w16 (k .corr)) (k .shift) (pos 0) w → r ≡ mirrorOf v
+    → w ≡ pairedRows (back w32 (k .«row_round»)) (k .«row_shift») (shiftedOf n b) inverseTab → v ≡ inverseColumnsOf (back w16 (k .round)) (back w16 (k .corr)) (k .shift) (pos 0) w → r ≡ inverseMirrorOf v
     → r ≡ inverseOf ten (pos 0) (shiftedOf n a)
 unfolding inverseOf
 whole ten n a k {b} {w} ek eb ew ev er =
     rw (er, ev, of-columns ten k (pos 0) w ek, ew, of-rows ten k (shiftedOf n b) inverseTab ek, eb, shift-law n a, rows-law (rowRound ten) (rowShift ten) (shiftedOf n a))
-    (columns-mirror (colRound ten) (colCorr ten) (colShift ten) (pos 0) (rowsOf (rowRound ten) (rowShift ten) (shiftedOf n a)))
+    (columns-mirror (colRound ten) (colCorr ten) (colShift ten) (pos 0) (inverseRowsOf (rowRound ten) (rowShift ten) (shiftedOf n a)))
 
 pub row-small : (ten : Bool) → rowShift ten < 32
 row-small false = omega arith

@@ -6,9 +6,9 @@ use mathlib.Core.List.{List, [], _∷_}
 use lib.IntN.{ℤ, pos, negsuc}
 use Rattle.scalar.specs.Scalar.{sat16, wrap16, wrap32, addsOf, subsOf, mulhiOf, sraOf, orOf}
 use Rattle.scalar.specs.Tab.{tabFrom}
-use Rattle.irow.specs.RowPass.{tab04, tab17, tab26, tab35, rowLane, rowsOf}
-use Rattle.idct.specs.column.Steps.{_▸_, oddOf, evenOf, sumOf, diffOf, joinOf, columnOf}
-use Rattle.idct.specs.columns.Columns.{columnAt, columnsOf}
+use Rattle.irow.specs.RowPass.{tab04, tab17, tab26, tab35, rowLane, inverseRowsOf}
+use Rattle.idct.specs.column.Steps.{_▸_, inverseOddOf, inverseEvenOf, inverseSumOf, inverseDiffOf, inverseJoinOf, inverseColumnOf}
+use Rattle.idct.specs.columns.Columns.{inverseColumnAt, inverseColumnsOf}
 use Rattle.idct.specs.Inverse.{inverseOf}
 
 wide : List ℤ
@@ -30,7 +30,7 @@ wide-8 : inverseOf false (pos 128) wide ≡
     pos 326 ∷ pos 277 ∷ negsuc 383 ∷ pos 340 ∷ negsuc 191 ∷ pos 639 ∷ pos 639 ∷ pos 639 ∷ pos 428 ∷ pos 538 ∷ negsuc 383 ∷ pos 297 ∷ pos 266 ∷ negsuc 41 ∷ pos 639 ∷ negsuc 383 ∷
     negsuc 383 ∷ pos 639 ∷ negsuc 281 ∷ pos 639 ∷ pos 266 ∷ negsuc 383 ∷ pos 128 ∷ pos 128 ∷ pos 639 ∷ pos 639 ∷ pos 278 ∷ pos 340 ∷ negsuc 383 ∷ pos 639 ∷ pos 142 ∷ pos 470 ∷
     negsuc 383 ∷ negsuc 383 ∷ negsuc 383 ∷ pos 639 ∷ pos 490 ∷ negsuc 21 ∷ pos 277 ∷ pos 26 ∷ negsuc 383 ∷ pos 639 ∷ pos 639 ∷ negsuc 383 ∷ pos 639 ∷ pos 639 ∷ negsuc 383 ∷ pos 128 ∷ []
-unfolding inverseOf columnsOf columnAt columnOf joinOf oddOf evenOf sumOf diffOf _▸_ rowsOf rowLane tab04 tab17 tab26 tab35 tabFrom sat16 wrap16 wrap32 addsOf subsOf mulhiOf sraOf orOf wide
+unfolding inverseOf inverseColumnsOf inverseColumnAt inverseColumnOf inverseJoinOf inverseOddOf inverseEvenOf inverseSumOf inverseDiffOf _▸_ inverseRowsOf rowLane tab04 tab17 tab26 tab35 tabFrom sat16 wrap16 wrap32 addsOf subsOf mulhiOf sraOf orOf wide
 wide-8 = refl
 
 wide-10 : inverseOf true (pos 512) wide ≡
@@ -38,7 +38,7 @@ wide-10 : inverseOf true (pos 512) wide ≡
     pos 908 ∷ pos 811 ∷ negsuc 511 ∷ pos 936 ∷ negsuc 127 ∷ pos 1535 ∷ pos 1535 ∷ pos 1535 ∷ pos 1112 ∷ pos 1332 ∷ negsuc 511 ∷ pos 851 ∷ pos 863 ∷ pos 172 ∷ pos 1535 ∷ negsuc 511 ∷
     negsuc 511 ∷ pos 1535 ∷ negsuc 307 ∷ pos 1535 ∷ pos 863 ∷ negsuc 511 ∷ pos 334 ∷ pos 512 ∷ pos 1535 ∷ pos 1535 ∷ pos 812 ∷ pos 936 ∷ negsuc 511 ∷ pos 1535 ∷ pos 811 ∷ pos 1196 ∷
     negsuc 511 ∷ negsuc 511 ∷ negsuc 511 ∷ pos 1535 ∷ pos 1236 ∷ pos 212 ∷ pos 736 ∷ pos 308 ∷ negsuc 511 ∷ pos 1535 ∷ pos 1535 ∷ negsuc 511 ∷ pos 1535 ∷ pos 1535 ∷ negsuc 511 ∷ pos 512 ∷ []
-unfolding inverseOf columnsOf columnAt columnOf joinOf oddOf evenOf sumOf diffOf _▸_ rowsOf rowLane tab04 tab17 tab26 tab35 tabFrom sat16 wrap16 wrap32 addsOf subsOf mulhiOf sraOf orOf wide
+unfolding inverseOf inverseColumnsOf inverseColumnAt inverseColumnOf inverseJoinOf inverseOddOf inverseEvenOf inverseSumOf inverseDiffOf _▸_ inverseRowsOf rowLane tab04 tab17 tab26 tab35 tabFrom sat16 wrap16 wrap32 addsOf subsOf mulhiOf sraOf orOf wide
 wide-10 = refl
 
 usual-8 : inverseOf false (pos 128) usual ≡
@@ -46,5 +46,5 @@ usual-8 : inverseOf false (pos 128) usual ≡
     pos 530 ∷ negsuc 137 ∷ pos 222 ∷ pos 622 ∷ pos 333 ∷ pos 74 ∷ pos 214 ∷ negsuc 319 ∷ pos 609 ∷ negsuc 223 ∷ pos 308 ∷ pos 493 ∷ pos 442 ∷ negsuc 206 ∷ pos 240 ∷ negsuc 162 ∷
     pos 639 ∷ negsuc 232 ∷ pos 374 ∷ pos 347 ∷ pos 639 ∷ negsuc 341 ∷ pos 290 ∷ negsuc 27 ∷ pos 616 ∷ negsuc 87 ∷ pos 425 ∷ pos 366 ∷ pos 639 ∷ negsuc 240 ∷ pos 321 ∷ pos 78 ∷
     pos 373 ∷ pos 116 ∷ pos 390 ∷ pos 500 ∷ pos 639 ∷ pos 106 ∷ pos 338 ∷ pos 254 ∷ pos 232 ∷ pos 168 ∷ pos 289 ∷ pos 606 ∷ pos 639 ∷ pos 422 ∷ pos 347 ∷ pos 411 ∷ []
-unfolding inverseOf columnsOf columnAt columnOf joinOf oddOf evenOf sumOf diffOf _▸_ rowsOf rowLane tab04 tab17 tab26 tab35 tabFrom sat16 wrap16 wrap32 addsOf subsOf mulhiOf sraOf orOf usual
+unfolding inverseOf inverseColumnsOf inverseColumnAt inverseColumnOf inverseJoinOf inverseOddOf inverseEvenOf inverseSumOf inverseDiffOf _▸_ inverseRowsOf rowLane tab04 tab17 tab26 tab35 tabFrom sat16 wrap16 wrap32 addsOf subsOf mulhiOf sraOf orOf usual
 usual-8 = refl

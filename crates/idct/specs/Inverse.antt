@@ -4,9 +4,9 @@ use mathlib.Core.List.{List}
 use Prim.Native.Nat.{ℕ}
 use lib.IntN.{ℤ, pos}
 use Rattle.scalar.specs.Tab.{tab}
-use Rattle.irow.specs.RowPass.{lane, rowsOf}
+use Rattle.irow.specs.RowPass.{lane, inverseRowsOf}
 use Rattle.paint.specs.Samples.{sampleOf}
-use Rattle.idct.specs.columns.Columns.{columnsOf}
+use Rattle.idct.specs.columns.Columns.{inverseColumnsOf}
 use Rattle.idct.specs.declared.Roundings.{Roundings}
 
 abbrev pub rowRound : Bool → ℤ
@@ -36,7 +36,7 @@ roundingsOf ten = record { «row_round» = rowRound ten; «row_shift» = rowShif
 
 -- 64 dequantised coefficients in natural order become 64 numbers, level added, not clamped
 unfoldable pub inverseOf : Bool → ℤ → List ℤ → List ℤ
-inverseOf ten level a = columnsOf (colRound ten) (colCorr ten) (colShift ten) level (rowsOf (rowRound ten) (rowShift ten) a)
+inverseOf ten level a = inverseColumnsOf (colRound ten) (colCorr ten) (colShift ten) level (inverseRowsOf (rowRound ten) (rowShift ten) a)
 
 -- the samples of a block's numbers
 unfoldable pub samplesOf : Bool → List ℤ → List ℕ

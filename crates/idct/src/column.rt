@@ -2,7 +2,7 @@
 // The steps that the odd and the even rows share nothing in are two stages; the third joins them.
 ghost use mathlib.Core.Path.{_≡_};
 ghost use Prim.Native.Nat.{_<_};
-ghost use Rattle.idct.specs.column.Steps.{oddOf, evenOf, sumOf, diffOf, columnOf};
+ghost use Rattle.idct.specs.column.Steps.{inverseOddOf, inverseEvenOf, inverseSumOf, inverseDiffOf, inverseColumnOf};
 
 const TG_1_16: i16 = 13036;
 
@@ -34,7 +34,7 @@ pub struct Eight {
 
 // The odd rows' stage.
 pub fn odd(x1: i16, x3: i16, x5: i16, x7: i16) -> Four
-    ensures { λ r. ⌜ r ≡ oddOf x1 x3 x5 x7 ⌝ }
+    ensures { λ r. ⌜ r ≡ inverseOddOf x1 x3 x5 x7 ⌝ }
 {
     let m5 = scalar::mulhi1(x5, TG_3_16);
     let m3 = scalar::mulhi1(TG_3_16, x3);
@@ -70,7 +70,7 @@ pub fn odd(x1: i16, x3: i16, x5: i16, x7: i16) -> Four
 
 // The even rows' stage, with the rounding of the sums and of the differences.
 pub fn even(x0: i16, x2: i16, x4: i16, x6: i16, round: i16, corr: i16) -> Four
-    ensures { λ r. ⌜ r ≡ evenOf round corr x0 x2 x4 x6 ⌝ }
+    ensures { λ r. ⌜ r ≡ inverseEvenOf round corr x0 x2 x4 x6 ⌝ }
 {
     let m6 = scalar::mulhi1(x6, TG_2_16);
     let m2 = scalar::mulhi1(TG_2_16, x2);
@@ -97,7 +97,7 @@ pub fn even(x0: i16, x2: i16, x4: i16, x6: i16, round: i16, corr: i16) -> Four
 // A sum, shifted, with the level added.
 pub fn sum_out(a: i16, b: i16, shift: u32, level: i16) -> i16
     requires { ⌜ shift < 16 ⌝ }
-    ensures { λ r. ⌜ r ≡ sumOf shift level a b ⌝ }
+    ensures { λ r. ⌜ r ≡ inverseSumOf shift level a b ⌝ }
 {
     let s = scalar::adds1(a, b);
     let t = scalar::sra16(s, shift);
@@ -107,7 +107,7 @@ pub fn sum_out(a: i16, b: i16, shift: u32, level: i16) -> i16
 // A difference, shifted, with the level added.
 pub fn diff_out(a: i16, b: i16, shift: u32, level: i16) -> i16
     requires { ⌜ shift < 16 ⌝ }
-    ensures { λ r. ⌜ r ≡ diffOf shift level a b ⌝ }
+    ensures { λ r. ⌜ r ≡ inverseDiffOf shift level a b ⌝ }
 {
     let s = scalar::subs1(a, b);
     let t = scalar::sra16(s, shift);
@@ -130,7 +130,7 @@ pub fn column(
     level: i16,
 ) -> Eight
     requires { ⌜ shift < 16 ⌝ }
-    ensures { λ r. ⌜ r ≡ columnOf round corr shift level x0 x1 x2 x3 x4 x5 x6 x7 ⌝ }
+    ensures { λ r. ⌜ r ≡ inverseColumnOf round corr shift level x0 x1 x2 x3 x4 x5 x6 x7 ⌝ }
 {
     let o = odd(x1, x3, x5, x7);
     let e = even(x0, x2, x4, x6, round, corr);

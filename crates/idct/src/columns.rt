@@ -1,7 +1,7 @@
 // The column pass of the inverse transform on a whole block: a loop over the columns, so that they run side by side in vectors.
 ghost use mathlib.Core.Path.{_≡_};
 ghost use Prim.Native.Nat.{_<_};
-ghost use Rattle.idct.specs.columns.Columns.{columnAt, setColumn, columnsOf};
+ghost use Rattle.idct.specs.columns.Columns.{inverseColumnAt, setColumn, inverseColumnsOf};
 
 // Column j of the block.
 pub fn column_at(
@@ -13,7 +13,7 @@ pub fn column_at(
     level: i16,
 ) -> crate::column::Eight
     requires { ⌜ (j < 8) × (shift < 16) ⌝ }
-    ensures { λ r. ⌜ r ≡ columnAt round corr shift level (now (w .entry)) j ⌝ }
+    ensures { λ r. ⌜ r ≡ inverseColumnAt round corr shift level (now (w .entry)) j ⌝ }
 {
     crate::column::column(
         w[j],
@@ -57,7 +57,7 @@ pub fn put_column(p: &mut [i16; 64], j: usize, v: crate::column::Eight)
 // All eight columns.
 pub fn columns(w: [i16; 64], round: i16, corr: i16, shift: u32, level: i16) -> [i16; 64]
     requires { ⌜ shift < 16 ⌝ }
-    ensures { λ r. ⌜ r ≡ columnsOf round corr shift level w ⌝ }
+    ensures { λ r. ⌜ r ≡ inverseColumnsOf round corr shift level w ⌝ }
 {
     let mut p = [0i16; 64];
     for j in 0..8 {

@@ -6,9 +6,9 @@ ghost use mathlib.Core.Bool.{true, false};
 ghost use mathlib.Core.Path.{_≡_};
 ghost use Prim.Native.Nat.{_<_};
 ghost use lib.IntN.{pos};
-ghost use Rattle.irow.specs.Stages.{shiftedOf, mirrorOf};
+ghost use Rattle.irow.specs.Stages.{shiftedOf, inverseMirrorOf};
 ghost use Rattle.paint.specs.Samples.{tenOf};
-ghost use Rattle.idct.specs.columns.Columns.{levelOf};
+ghost use Rattle.idct.specs.columns.Columns.{levelAddedOf};
 ghost use Rattle.idct.specs.Inverse.{roundingsOf, inverseOf, samplesOf};
 
 // Of a depth: the rounding and the shift of the rows, the roundings of a column's sums and differences and their shift.
@@ -44,7 +44,7 @@ pub fn of_depth(ten: bool) -> Roundings
 
 // The right half of each row mirrored.
 pub fn mirror(a: [i16; 64]) -> [i16; 64]
-    ensures { λ r. ⌜ r ≡ mirrorOf a ⌝ }
+    ensures { λ r. ⌜ r ≡ inverseMirrorOf a ⌝ }
 {
     let mut x = [0i16; 64];
     for r in 0..8 {
@@ -82,7 +82,7 @@ pub fn ten(x: i16) -> u16
 
 // The samples of 8 bits, the level added. What is below 0 is made 0 first: the clamp that is left is one instruction for sixteen samples.
 pub fn bytes(v: [i16; 64], level: i16) -> [u8; 64]
-    ensures { λ r. ⌜ r ≡ samplesOf false (levelOf level v) ⌝ }
+    ensures { λ r. ⌜ r ≡ samplesOf false (levelAddedOf level v) ⌝ }
 {
     let mut p = [0u8; 64];
     for i in 0..64 {
@@ -93,7 +93,7 @@ pub fn bytes(v: [i16; 64], level: i16) -> [u8; 64]
 
 // The samples of 10 bits.
 pub fn words(v: [i16; 64], level: i16) -> [u16; 64]
-    ensures { λ r. ⌜ r ≡ samplesOf true (levelOf level v) ⌝ }
+    ensures { λ r. ⌜ r ≡ samplesOf true (levelAddedOf level v) ⌝ }
 {
     let mut p = [0u16; 64];
     for i in 0..64 {

@@ -13,24 +13,24 @@ use Rattle.scalar.specs.Scalar.{wrap32, sraOf, maddOf}
 use Rattle.scalar.specs.Tab.{tab}
 use Rattle.scalar.proofs.Fill.{length-tab, getD-tab, tab-ext}
 use Rattle.scalar.proofs.InRows.{row-of, col-of}
-use Rattle.irow.specs.pairs.Pairs.{spreadPlace, spreadOf, pairsOf, evensOf, oddsOf}
+use Rattle.irow.specs.pairs.Pairs.{spreadPlace, inverseSpreadOf, inversePairsOf, evensOf, oddsOf}
 use Rattle.irow.specs.declared.pairs.Two.{Two}
-use Rattle.irow.specs.sums.Sums.{laneOf, halfOf, sideOf, rowsFrom}
+use Rattle.irow.specs.sums.Sums.{inverseLaneOf, inverseHalfOf, sideOf, rowsFrom}
 use Rattle.irow.proofs.sums.Sums.{left-is, right-is, half-at}
-use Rattle.irow.specs.RowPass.{lane, rowTab, pairSum, evenSum, oddSum, rounded, pickZ, rowLane, rowsOf}
-use Rattle.irow.specs.Stages.{pairPlace, pairUpOf, shiftedOf, groupOf, inverseTab, mirrorPlace, mirrorOf, pairedRows}
+use Rattle.irow.specs.RowPass.{lane, rowTab, pairSum, evenSum, oddSum, roundedSum, pickZ, rowLane, inverseRowsOf}
+use Rattle.irow.specs.Stages.{pairedPlace, pairUpOf, shiftedOf, groupOf, inverseTab, mirrorPlace, inverseMirrorOf, pairedRows}
 use Rattle.irow.proofs.Place.{pair-lt}
 
 -- ---- the factors
 
-up-at : (a : List ℤ) (r k : ℕ) → r < 8 → k < 8 → lane (pairUpOf a) (8 * r + k) ≡ lane a (8 * r + pairPlace k)
+up-at : (a : List ℤ) (r k : ℕ) → r < 8 → k < 8 → lane (pairUpOf a) (8 * r + k) ≡ lane a (8 * r + pairedPlace k)
 unfolding pairUpOf
 up-at a r k hr hk =
-    getD-tab 64 (λ i. lane a (8 * (i / 8) + pairPlace (i % 8))) (8 * r + k) (pos 0) (omega arith) ∙ rw (row-of r k hk, col-of r k hk) refl
+    getD-tab 64 (λ i. lane a (8 * (i / 8) + pairedPlace (i % 8))) (8 * r + k) (pos 0) (omega arith) ∙ rw (row-of r k hk, col-of r k hk) refl
 
 -- number p of row r, spread from `from` on
-spread-at : (b : List ℤ) (from r p : ℕ) → r < 8 → p < 8 → lane (spreadOf b from) (8 * r + p) ≡ lane b (8 * r + spreadPlace from p)
-unfolding spreadOf
+spread-at : (b : List ℤ) (from r p : ℕ) → r < 8 → p < 8 → lane (inverseSpreadOf b from) (8 * r + p) ≡ lane b (8 * r + spreadPlace from p)
+unfolding inverseSpreadOf
 spread-at b from r p hr hp =
     getD-tab 64 (λ i. lane b (8 * (i / 8) + spreadPlace from (i % 8))) (8 * r + p) (pos 0) (omega arith) ∙ rw (row-of r p hp, col-of r p hp) refl
 
@@ -51,16 +51,16 @@ swapped {x' = x'} {y' = y'} {u' = u'} {v' = v'} p q r s = rw (p, q, r, s) (ap wr
 
 module _ (a : List ℤ) (s from : ℕ) (hs : s < 4) where
   abbrev x : List ℤ
-  x = spreadOf (pairUpOf a) from
+  x = inverseSpreadOf (pairUpOf a) from
 
   -- number p of a spread row is number k of the row
-  factor : (r p k : ℕ) → r < 8 → p < 8 → spreadPlace from p < 8 → pairPlace (spreadPlace from p) ≡ k → lane x (8 * r + p) ≡ lane a (8 * r + k)
+  factor : (r p k : ℕ) → r < 8 → p < 8 → spreadPlace from p < 8 → pairedPlace (spreadPlace from p) ≡ k → lane x (8 * r + p) ≡ lane a (8 * r + k)
   factor r p k hr hp hf e = spread-at (pairUpOf a) from r p hr hp ∙ up-at a r (spreadPlace from p) hr hf ∙ ap (λ (i : ℕ). lane a (8 * r + i)) e
 
   -- the pair of numbers k and k + 2, multiplied for number c of the row
-  pair-at : (r c k g : ℕ) → r < 8 → c < 4 → from < 7 → from % 2 ≡ 0 → pairPlace (spreadPlace from (2 * c)) ≡ k → pairPlace (spreadPlace from (2 * c + 1)) ≡ k + 2 → groupOf s c ≡ g
-      → lane (pairsOf x inverseTab (64 * s)) (4 * r + c) ≡ wrap32 (pairSum a r k g c)
-  unfolding pairsOf
+  pair-at : (r c k g : ℕ) → r < 8 → c < 4 → from < 7 → from % 2 ≡ 0 → pairedPlace (spreadPlace from (2 * c)) ≡ k → pairedPlace (spreadPlace from (2 * c + 1)) ≡ k + 2 → groupOf s c ≡ g
+      → lane (inversePairsOf x inverseTab (64 * s)) (4 * r + c) ≡ wrap32 (pairSum a r k g c)
+  unfolding inversePairsOf
   pair-at r c k g hr hc hf hp e f eg =
       let i = 4 * r + c in
       let p0 : 2 * i ≡ 8 * r + 2 * c = omega arith in
@@ -81,14 +81,14 @@ fours n q r h e = omega arith
 
 module _ (round : ℤ) (shift : ℕ) (a : List ℤ) where
   abbrev m : ℕ → ℕ → List ℤ
-  m from s = pairsOf (spreadOf (pairUpOf a) from) inverseTab (64 * s)
+  m from s = inversePairsOf (inverseSpreadOf (pairUpOf a) from) inverseTab (64 * s)
 
   abbrev half : Bool → List ℤ
-  half right = halfOf right round shift (m 0 0) (m 4 1) (m 2 2) (m 6 3)
+  half right = inverseHalfOf right round shift (m 0 0) (m 4 1) (m 2 2) (m 6 3)
 
   -- number c of a half, by its four pairs of products: in an odd place the pairs come in the other order
   even-place : (right : Bool) (r c : ℕ) → r < 8 → c < 4 → c % 2 ≡ 0
-      → lane (half right) (4 * r + c) ≡ laneOf right round shift (wrap32 (pairSum a r 0 0 c)) (wrap32 (pairSum a r 4 1 c)) (wrap32 (pairSum a r 1 2 c)) (wrap32 (pairSum a r 5 3 c))
+      → lane (half right) (4 * r + c) ≡ inverseLaneOf right round shift (wrap32 (pairSum a r 0 0 c)) (wrap32 (pairSum a r 4 1 c)) (wrap32 (pairSum a r 1 2 c)) (wrap32 (pairSum a r 5 3 c))
   even-place right r c hr hc e =
       let z : 2 * c % 4 / 2 ≡ 0 = omega arith in
       let y : (2 * c + 1) % 4 ≡ 1 = fours (2 * c + 1) (c / 2) 1 (omega arith) (omega arith) in
@@ -102,7 +102,7 @@ module _ (round : ℤ) (shift : ℕ) (a : List ℤ) where
       (pair-at a 3 6 (omega arith) r c 5 3 hr hc (omega arith) refl (rw (z, b) refl) (rw (z1, b1) refl) (rw e refl))
 
   odd-place : (right : Bool) (r c : ℕ) → r < 8 → c < 4 → c % 2 ≡ 1
-      → lane (half right) (4 * r + c) ≡ laneOf right round shift (wrap32 (pairSum a r 4 1 c)) (wrap32 (pairSum a r 0 0 c)) (wrap32 (pairSum a r 5 3 c)) (wrap32 (pairSum a r 1 2 c))
+      → lane (half right) (4 * r + c) ≡ inverseLaneOf right round shift (wrap32 (pairSum a r 4 1 c)) (wrap32 (pairSum a r 0 0 c)) (wrap32 (pairSum a r 5 3 c)) (wrap32 (pairSum a r 1 2 c))
   odd-place right r c hr hc e =
       let z : 2 * c % 4 / 2 ≡ 1 = omega arith in
       let y : (2 * c + 1) % 4 ≡ 3 = fours (2 * c + 1) (c / 2) 3 (omega arith) (omega arith) in
@@ -116,10 +116,10 @@ module _ (round : ℤ) (shift : ℕ) (a : List ℤ) where
       (pair-at a 3 6 (omega arith) r c 1 2 hr hc (omega arith) refl (rw (z, b) refl) (rw (z1, b1) refl) (rw e refl))
 
   abbrev sums : ℕ → ℕ → ℤ
-  sums r c = rounded round shift (evenSum a r c +ℤ oddSum a r c)
+  sums r c = roundedSum round shift (evenSum a r c +ℤ oddSum a r c)
 
   abbrev diffs : ℕ → ℕ → ℤ
-  diffs r c = rounded round shift (evenSum a r c -ℤ oddSum a r c)
+  diffs r c = roundedSum round shift (evenSum a r c -ℤ oddSum a r c)
 
   parity : (c : ℕ) → (c % 2 ≡ 0) ⊎ (c % 2 ≡ 1)
   parity c = go (c % 2) refl (omega arith)
@@ -134,7 +134,7 @@ module _ (round : ℤ) (shift : ℕ) (a : List ℤ) where
       ⊎-elim
       (λ e. even-place false r c hr hc e ∙ left-is round shift (pairSum a r 0 0 c) (pairSum a r 4 1 c) (pairSum a r 1 2 c) (pairSum a r 5 3 c))
       (λ e. odd-place false r c hr hc e ∙ left-is round shift (pairSum a r 4 1 c) (pairSum a r 0 0 c) (pairSum a r 5 3 c) (pairSum a r 1 2 c)
-      ∙ ap₂ (λ (x y : ℤ). rounded round shift (x +ℤ y)) (+ℤ-comm (pairSum a r 4 1 c) (pairSum a r 0 0 c)) (+ℤ-comm (pairSum a r 5 3 c) (pairSum a r 1 2 c)))
+      ∙ ap₂ (λ (x y : ℤ). roundedSum round shift (x +ℤ y)) (+ℤ-comm (pairSum a r 4 1 c) (pairSum a r 0 0 c)) (+ℤ-comm (pairSum a r 5 3 c) (pairSum a r 1 2 c)))
       (parity c)
 
   right : (r c : ℕ) → r < 8 → c < 4 → lane (half true) (4 * r + c) ≡ diffs r c
@@ -142,11 +142,11 @@ module _ (round : ℤ) (shift : ℕ) (a : List ℤ) where
       ⊎-elim
       (λ e. even-place true r c hr hc e ∙ right-is round shift (pairSum a r 0 0 c) (pairSum a r 4 1 c) (pairSum a r 1 2 c) (pairSum a r 5 3 c))
       (λ e. odd-place true r c hr hc e ∙ right-is round shift (pairSum a r 4 1 c) (pairSum a r 0 0 c) (pairSum a r 5 3 c) (pairSum a r 1 2 c)
-      ∙ ap₂ (λ (x y : ℤ). rounded round shift (x -ℤ y)) (+ℤ-comm (pairSum a r 4 1 c) (pairSum a r 0 0 c)) (+ℤ-comm (pairSum a r 5 3 c) (pairSum a r 1 2 c)))
+      ∙ ap₂ (λ (x y : ℤ). roundedSum round shift (x -ℤ y)) (+ℤ-comm (pairSum a r 4 1 c) (pairSum a r 0 0 c)) (+ℤ-comm (pairSum a r 5 3 c) (pairSum a r 1 2 c)))
       (parity c)
 
-  row-at : (r c : ℕ) → r < 8 → c < 8 → lane (rowsOf round shift a) (8 * r + c) ≡ rowLane round shift a r c
-  unfolding rowsOf
+  row-at : (r c : ℕ) → r < 8 → c < 8 → lane (inverseRowsOf round shift a) (8 * r + c) ≡ rowLane round shift a r c
+  unfolding inverseRowsOf
   row-at r c hr hc =
       getD-tab 64 (λ i. rowLane round shift a (i / 8) (i % 8)) (8 * r + c) (pos 0) (omega arith) ∙ rw (row-of r c hc, col-of r c hc) refl
 
@@ -159,7 +159,7 @@ module _ (round : ℤ) (shift : ℕ) (a : List ℤ) where
   diff-lane r c d h e = rw (le-ltb c 4 h, e) refl
 
   either : (r c : ℕ) (t : Bool) → r < 8 → c < 8 → ltb c 4 ≡ t
-      → pickZ t (lane (half false) (4 * r + c)) (lane (half true) (4 * r + (c - 4))) ≡ lane (rowsOf round shift a) (8 * r + cond t c (11 - c))
+      → pickZ t (lane (half false) (4 * r + c)) (lane (half true) (4 * r + (c - 4))) ≡ lane (inverseRowsOf round shift a) (8 * r + cond t c (11 - c))
   either r c true hr hc e =
       let h : c < 4 = ltb-true c 4 e in
       left r c hr h ∙ sym (sum-lane r c h) ∙ sym (row-at r c hr hc)
@@ -169,8 +169,8 @@ module _ (round : ℤ) (shift : ℕ) (a : List ℤ) where
       let d : 7 - (11 - c) ≡ c - 4 = omega arith in
       right r (c - 4) hr (omega arith) ∙ sym (diff-lane r (11 - c) (c - 4) k d) ∙ sym (row-at r (11 - c) hr (omega arith))
 
-  pub rows-law : pairedRows round shift (pairUpOf a) inverseTab ≡ mirrorOf (rowsOf round shift a)
-  unfolding pairedRows sideOf mirrorOf
+  pub rows-law : pairedRows round shift (pairUpOf a) inverseTab ≡ inverseMirrorOf (inverseRowsOf round shift a)
+  unfolding pairedRows sideOf inverseMirrorOf
   rows-law = tab-ext 64 (λ i h. either (i / 8) (i % 8) (ltb (i % 8) 4) (omega arith) (omega arith) refl)
 
 -- ---- the shift, before or behind pair_up
@@ -184,9 +184,9 @@ unfolding pairUpOf shiftedOf
 shift-law n a =
     tab-ext 64
     (λ i h.
-    let k : pairPlace (i % 8) < 8 = pair-lt (i % 8) (omega arith) in
-    ap (λ (z : ℤ). sraOf z n) (getD-tab 64 (λ i. lane a (8 * (i / 8) + pairPlace (i % 8))) i (pos 0) h)
-    ∙ sym (shift-at n a (8 * (i / 8) + pairPlace (i % 8)) (omega arith)))
+    let k : pairedPlace (i % 8) < 8 = pair-lt (i % 8) (omega arith) in
+    ap (λ (z : ℤ). sraOf z n) (getD-tab 64 (λ i. lane a (8 * (i / 8) + pairedPlace (i % 8))) i (pos 0) h)
+    ∙ sym (shift-at n a (8 * (i / 8) + pairedPlace (i % 8)) (omega arith)))
 
 -- ---- the calls of paired_rows in order
 

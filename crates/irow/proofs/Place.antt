@@ -6,13 +6,13 @@ use native.Mathlib.Omega.{arith}
 use lib.IntN.{ℤ}
 use Rattle.scalar.proofs.InRows.{row-of, col-of}
 use Rattle.irow.specs.RowPass.{lane}
-use Rattle.irow.specs.Stages.{pairPlace}
+use Rattle.irow.specs.Stages.{pairedPlace}
 
 -- each row in pairs
 abbrev pub pairAt : List ℤ → ℕ → ℤ
-pairAt a i = lane a (8 * (i / 8) + pairPlace (i % 8))
+pairAt a i = lane a (8 * (i / 8) + pairedPlace (i % 8))
 
-pair-is : (k : ℕ) → k < 8 → 4 * (k / 4) + 2 * (k % 2) + k / 2 % 2 ≡ pairPlace k
+pair-is : (k : ℕ) → k < 8 → 4 * (k / 4) + 2 * (k % 2) + k / 2 % 2 ≡ pairedPlace k
 pair-is zero h = refl
 pair-is (suc zero) h = refl
 pair-is (suc (suc zero)) h = refl
@@ -23,7 +23,7 @@ pair-is (suc (suc (suc (suc (suc (suc zero)))))) h = refl
 pair-is (suc (suc (suc (suc (suc (suc (suc zero))))))) h = refl
 pair-is (suc (suc (suc (suc (suc (suc (suc (suc k)))))))) h = absurd (omega arith)
 
-pub pair-lt : (k : ℕ) → k < 8 → pairPlace k < 8
+pub pair-lt : (k : ℕ) → k < 8 → pairedPlace k < 8
 pair-lt k h = rw (← pair-is k h) (omega arith)
 
 pub pair-place : (a : List ℤ) (r k : ℕ) → k < 8 → lane a (8 * r + (4 * (k / 4) + 2 * (k % 2) + k / 2 % 2)) ≡ pairAt a (8 * r + k)

@@ -1,5 +1,4 @@
 -- The row pass of the inverse transform. Document 01: sums of eight products, "the four odd ones added or subtracted", "rounded, shifted and saturated; the 32-bit sums wrap".
-use mathlib.Core.Bool.{Bool, true, false}
 use mathlib.Core.List.{List, [], _∷_}
 use Prim.Native.Nat.{ℕ, _+_, _-_, _*_, _/_, _%_}
 use lib.Dec.{ltb}
@@ -7,10 +6,8 @@ use lib.IntN.{ℤ, pos, negsuc, _+ℤ_, _-ℤ_, _*ℤ_}
 use lib.ListN.{getD}
 use Rattle.scalar.specs.Scalar.{sat16, wrap32, sraOf}
 use Rattle.scalar.specs.Tab.{tab}
-
--- the number at place i
-abbrev pub lane : List ℤ → ℕ → ℤ
-lane a i = getD a i (pos 0)
+pub use Rattle.scalar.specs.Tab.{lane}
+pub use Rattle.irow.specs.sums.Sums.{pickZ}
 
 -- TAB_I_04 of tables.rs
 unfoldable pub tab04 : List ℤ
@@ -60,18 +57,14 @@ abbrev pub oddSum : List ℤ → ℕ → ℕ → ℤ
 oddSum a r c = pairSum a r 1 2 c +ℤ pairSum a r 5 3 c
 
 -- a sum of 32 bits that wraps, rounded, shifted and saturated
-abbrev pub rounded : ℤ → ℕ → ℤ → ℤ
-rounded round shift s = sat16 (sraOf (wrap32 (s +ℤ round)) shift)
-
-abbrev pub pickZ : Bool → ℤ → ℤ → ℤ
-pickZ true x y = x
-pickZ false x y = y
+abbrev pub roundedSum : ℤ → ℕ → ℤ → ℤ
+roundedSum round shift s = sat16 (sraOf (wrap32 (s +ℤ round)) shift)
 
 -- number c of row r after the pass: the odd products are added in the left half, and in the right half, which mirrors it, subtracted
 unfoldable pub rowLane : ℤ → ℕ → List ℤ → ℕ → ℕ → ℤ
 rowLane round shift a r c =
-    pickZ (ltb c 4) (rounded round shift (evenSum a r c +ℤ oddSum a r c)) (rounded round shift (evenSum a r (7 - c) -ℤ oddSum a r (7 - c)))
+    pickZ (ltb c 4) (roundedSum round shift (evenSum a r c +ℤ oddSum a r c)) (roundedSum round shift (evenSum a r (7 - c) -ℤ oddSum a r (7 - c)))
 
 -- the block's 64 numbers after the pass
-unfoldable pub rowsOf : ℤ → ℕ → List ℤ → List ℤ
-rowsOf round shift a = tab 64 (λ i. rowLane round shift a (i / 8) (i % 8))
+unfoldable pub inverseRowsOf : ℤ → ℕ → List ℤ → List ℤ
+inverseRowsOf round shift a = tab 64 (λ i. rowLane round shift a (i / 8) (i % 8))

@@ -7,16 +7,16 @@ use lib.IntN.{ℤ}
 use lib.ListN.{getD}
 use Rattle.scalar.specs.Scalar.{sraOf}
 use Rattle.scalar.specs.Tab.{tab}
-use Rattle.irow.specs.pairs.Pairs.{spreadOf, pairsOf}
+use Rattle.irow.specs.pairs.Pairs.{inverseSpreadOf, inversePairsOf}
 use Rattle.irow.specs.sums.Sums.{rowsFrom}
 use Rattle.irow.specs.RowPass.{lane, rowTab}
 
 -- each row's numbers in the order 0 2 1 3 4 6 5 7: those that are multiplied in pairs stand side by side
-abbrev pub pairPlace : ℕ → ℕ
-pairPlace k = getD (0 ∷ 2 ∷ 1 ∷ 3 ∷ 4 ∷ 6 ∷ 5 ∷ 7 ∷ []) k 0
+abbrev pub pairedPlace : ℕ → ℕ
+pairedPlace k = getD (0 ∷ 2 ∷ 1 ∷ 3 ∷ 4 ∷ 6 ∷ 5 ∷ 7 ∷ []) k 0
 
 unfoldable pub pairUpOf : List ℤ → List ℤ
-pairUpOf a = tab 64 (λ i. lane a (8 * (i / 8) + pairPlace (i % 8)))
+pairUpOf a = tab 64 (λ i. lane a (8 * (i / 8) + pairedPlace (i % 8)))
 
 -- each number shifted right
 unfoldable pub shiftedOf : ℕ → List ℤ → List ℤ
@@ -34,10 +34,10 @@ inverseTab = tab 256 (λ j. lane (rowTab (j % 64 / 8)) (8 * groupOf (j / 64) (j 
 abbrev pub mirrorPlace : ℕ → ℕ
 mirrorPlace k = cond (ltb k 4) k (11 - k)
 
-unfoldable pub mirrorOf : List ℤ → List ℤ
-mirrorOf a = tab 64 (λ i. lane a (8 * (i / 8) + mirrorPlace (i % 8)))
+unfoldable pub inverseMirrorOf : List ℤ → List ℤ
+inverseMirrorOf a = tab 64 (λ i. lane a (8 * (i / 8) + mirrorPlace (i % 8)))
 
 -- the pass, by its stages, on a block whose rows are in pairs
 unfoldable pub pairedRows : ℤ → ℕ → List ℤ → List ℤ → List ℤ
 pairedRows round shift a t =
-    rowsFrom round shift (pairsOf (spreadOf a 0) t 0) (pairsOf (spreadOf a 4) t 64) (pairsOf (spreadOf a 2) t 128) (pairsOf (spreadOf a 6) t 192)
+    rowsFrom round shift (inversePairsOf (inverseSpreadOf a 0) t 0) (inversePairsOf (inverseSpreadOf a 4) t 64) (inversePairsOf (inverseSpreadOf a 2) t 128) (inversePairsOf (inverseSpreadOf a 6) t 192)

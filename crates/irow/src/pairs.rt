@@ -1,12 +1,12 @@
 // The products of the inverse's row pass, in pairs, for a whole block: loops of 32 and 64 turns, so that they run on vectors.
 ghost use mathlib.Core.Path.{_≡_};
 ghost use Prim.Native.Nat.{_≤_, _%_};
-ghost use Rattle.irow.specs.pairs.Pairs.{spreadOf, pairsOf, evensOf, oddsOf};
+ghost use Rattle.irow.specs.pairs.Pairs.{inverseSpreadOf, inversePairsOf, evensOf, oddsOf};
 
 // Of each row, the pair that starts at `from` and the pair four places on, in turn, twice.
 pub fn spread(a: &[i16; 64], from: usize) -> [i16; 64]
     requires { ⌜ (from ≤ 6) × (from % 2 ≡ 0) ⌝ }
-    ensures { λ r. ⌜ r ≡ spreadOf (now (a .entry)) from ⌝ }
+    ensures { λ r. ⌜ r ≡ inverseSpreadOf (now (a .entry)) from ⌝ }
 {
     let mut x = [0i16; 64];
     for r in 0..8 {
@@ -21,7 +21,7 @@ pub fn spread(a: &[i16; 64], from: usize) -> [i16; 64]
 // takes both factors as they lie side by side (pmaddwd), where it would swap them before.
 pub fn pairs(x: &[i16; 64], t: &[i16; 256], from: usize) -> [i32; 32]
     requires { ⌜ from ≤ 192 ⌝ }
-    ensures { λ r. ⌜ r ≡ pairsOf (now (x .entry)) (now (t .entry)) from ⌝ }
+    ensures { λ r. ⌜ r ≡ inversePairsOf (now (x .entry)) (now (t .entry)) from ⌝ }
 {
     let mut m = [0i32; 32];
     for i in 0..32 {

@@ -1,11 +1,11 @@
 // The sums of the inverse's row pass: a half of each row from the four pairs of products of its numbers.
 ghost use mathlib.Core.Path.{_≡_};
 ghost use Prim.Native.Nat.{_<_};
-ghost use Rattle.irow.specs.sums.Sums.{evenOf, joinedOf, laneOf, halfOf, sideOf, rowsFrom};
+ghost use Rattle.irow.specs.sums.Sums.{evenPartOf, joinedOf, inverseLaneOf, inverseHalfOf, sideOf, rowsFrom};
 
 // The even products of a number, rounded.
 pub fn even(a: i32, b: i32, round: i32) -> i32
-    ensures { λ r. ⌜ r ≡ evenOf round a b ⌝ }
+    ensures { λ r. ⌜ r ≡ evenPartOf round a b ⌝ }
 {
     scalar::add32(scalar::add32(a, round), b)
 }
@@ -24,7 +24,7 @@ pub fn joined(e: i32, o: i32, right: bool) -> i32
 // A number of a half, from its even products a and b and its odd ones c and d.
 pub fn lane(a: i32, b: i32, c: i32, d: i32, round: i32, shift: u32, right: bool) -> i16
     requires { ⌜ shift < 32 ⌝ }
-    ensures { λ r. ⌜ r ≡ laneOf right round shift a b c d ⌝ }
+    ensures { λ r. ⌜ r ≡ inverseLaneOf right round shift a b c d ⌝ }
 {
     let s = joined(even(a, b, round), scalar::add32(c, d), right);
     scalar::sat(scalar::sra32(s, shift))
@@ -41,7 +41,7 @@ pub fn half(
     right: bool,
 ) -> [i16; 32]
     requires { ⌜ shift < 32 ⌝ }
-    ensures { λ r. ⌜ r ≡ halfOf right round shift (now (m0 .entry)) (now (m1 .entry)) (now (m2 .entry)) (now (m3 .entry)) ⌝ }
+    ensures { λ r. ⌜ r ≡ inverseHalfOf right round shift (now (m0 .entry)) (now (m1 .entry)) (now (m2 .entry)) (now (m3 .entry)) ⌝ }
 {
     let mut w = [0i16; 32];
     for i in 0..32 {

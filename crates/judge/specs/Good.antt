@@ -4,7 +4,7 @@ use mathlib.Core.List.{List, [], _∷_}
 use Prim.Native.Nat.{ℕ, _*_}
 use Rattle.ask.specs.Ask.{Answer, refused, accepted}
 use Rattle.bits.specs.Bits.{bitAt}
-use Rattle.calls.specs.Arguments.{Plane, PerStream, Buffers}
+use Rattle.calls.specs.Arguments.{Plane}
 use Rattle.calls.specs.ReadPlane.{readSteps, readBlocks}
 use Rattle.calls.specs.Grid.{blocksOf}
 use Rattle.slice.specs.Calls.{PlanesRead, badPlanes, planesRead}
@@ -15,12 +15,6 @@ use Rattle.acread.specs.through.Through.{acEnd}
 abbrev pub goodPlanes : PlanesRead → Bool
 goodPlanes badPlanes = false
 goodPlanes (planesRead bs at) = true
-
-abbrev pub buffers : List ℕ → List ℕ → Buffers
-buffers dc ac = record { dcBytes = dc; acBytes = ac }
-
-abbrev pub positions : ℕ → ℕ → PerStream
-positions d a = record { dc = d; ac = a }
 
 abbrev pub strides : List Plane → List ℕ
 strides [] = []

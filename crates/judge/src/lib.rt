@@ -6,11 +6,11 @@ ghost use mathlib.Core.Path.{_≡_};
 ghost use mathlib.Core.List.{List, [], _∷_};
 ghost use Prim.Native.Nat.{ℕ, _*_, _^_, _≤_, _<_};
 ghost use lib.ListN.{take, getD};
-ghost use Rattle.calls.specs.Arguments.{Plane};
+ghost use Rattle.calls.specs.Arguments.{Plane, buffers, positions};
 ghost use Rattle.calls.specs.ReadPlane.{readPlane};
 ghost use Rattle.slice.specs.Calls.{readPlanes};
 ghost use Rattle.blockread.specs.On.{goodPlane};
-ghost use Rattle.judge.specs.Good.{goodPlanes, buffers, positions, strides, dcPlane, acPlane, goodInTurn};
+ghost use Rattle.judge.specs.Good.{goodPlanes, strides, dcPlane, acPlane, goodInTurn};
 
 // The stride of plane k.
 fn stride_at(k: usize, stride0: usize, stride1: usize, stride2: usize, stride3: usize) -> usize

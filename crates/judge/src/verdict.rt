@@ -4,10 +4,9 @@ ghost use mathlib.Core.Path.{_≡_};
 ghost use mathlib.Core.List.{List};
 ghost use Prim.Native.Nat.{ℕ};
 ghost use lib.ListN.{length};
-ghost use Rattle.calls.specs.Arguments.{Depth};
+ghost use Rattle.calls.specs.Arguments.{Depth, buffers, positions};
 ghost use Rattle.slice.specs.Calls.{decode};
-ghost use Rattle.questions.specs.of_call.ByNumbers.{planeCall, sliceCall};
-ghost use Rattle.judge.specs.Good.{buffers, positions};
+ghost use Rattle.calls.specs.Views.{planeCall, sliceCall};
 
 const BAD_CODE: u32 = 8;
 

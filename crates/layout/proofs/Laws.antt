@@ -1,12 +1,14 @@
 -- Laws of the geometry, over the definitions.
 use mathlib.Core.Path.{_≡_, refl}
 use mathlib.Core.Bool.{Bool, true, false, _&&_}
-use Prim.Native.Nat.{ℕ, _+_, _-_, _*_, _/_, _%_, _≤_, _<_}
+use mathlib.Core.List.{[], _∷_}
+use Prim.Native.Nat.{ℕ, zero, suc, _+_, _-_, _*_, _/_, _%_, _≤_, _<_}
 use native.Mathlib.Omega.{arith}
 use lib.Dec.{leb, ltb, eqb}
 use borrow.Author.Tests.{lt-ltb, le-ltb, leb-true}
-use Rattle.ask.specs.Ask.{refused, accepted, firstNo, asked}
-use Rattle.layout.specs.Geometry.{sizeOk, alignedHeight, geometryOf, layoutOf, rowIf, imageRowOf}
+use Rattle.ask.specs.Ask.{refused, accepted, firstNo, asked, byNumber}
+use Rattle.ask.specs.Limits.{sideMin, widthMax, heightMax}
+use Rattle.layout.specs.Geometry.{widthOk, heightOk, sizeOk, sizeQuestion, alignedHeight, geometryOf, layoutOf, rowIf, imageRowOf}
 
 -- ---- the size
 and-left : (a b : Bool) → a && b ≡ true → a ≡ true
@@ -21,25 +23,39 @@ and-right false b e = absurd (false-true e)
     false-true e = let z : _≡_ {A = ℕ} 0 1 = cc in omega arith
 
 pub record Sized (w h : ℕ) : Type 0 where
-  pub wide : w ≤ 7680
-  pub high : h ≤ 4320
+  pub wide : w ≤ widthMax
+  pub high : h ≤ heightMax
 
 pub sized : (w h : ℕ) → sizeOk w h ≡ true → Sized w h
 sized w h e =
-    let a = and-right (eqb (w % 2) 0) (leb 16 w && (leb w 7680 && (leb 16 h && leb h 4320))) e in
-    let b = and-right (leb 16 w) (leb w 7680 && (leb 16 h && leb h 4320)) a in
+    let sides = leb sideMin w && leb w widthMax in
+    let a = and-right (eqb (w % 2) 0) sides (and-left (widthOk w) (heightOk h) e) in
     record {
-      wide = leb-true w 7680 (and-left (leb w 7680) (leb 16 h && leb h 4320) b);
-      high = leb-true h 4320 (and-right (leb 16 h) (leb h 4320) (and-right (leb w 7680) (leb 16 h && leb h 4320) b));
+      wide = leb-true w widthMax (and-right (leb sideMin w) (leb w widthMax) a);
+      high = leb-true h heightMax (and-right (leb sideMin h) (leb h heightMax) (and-right (widthOk w) (heightOk h) e));
     }
 
-pub fits : (w h : ℕ) → sizeOk w h ≡ true → layoutOf w h ≡ accepted (geometryOf w h)
-unfolding layoutOf asked firstNo
-fits w h e = rw e
+-- what question 9 leaves, put alone
+pub sized-alone : (w h : ℕ) {n : ℕ} → n ≡ firstNo (sizeQuestion w h ∷ []) → n ≤ 0 → Sized w h
+unfolding firstNo
+sized-alone w h e k = go (sizeOk w h) refl
+  where
+    go : (b : Bool) → sizeOk w h ≡ b → Sized w h
+    go true x = sized w h x
+    go false x = absurd (let z = rw x at e in omega arith)
 
-pub too-large : (w h : ℕ) → sizeOk w h ≡ false → layoutOf w h ≡ refused 9
-unfolding layoutOf asked firstNo
-too-large w h e = rw e
+module _ (w h : ℕ) {n : ℕ} (e : n ≡ firstNo (sizeQuestion w h ∷ [])) where
+  pub fits : n ≤ 0 → layoutOf w h ≡ accepted (geometryOf w h)
+  unfolding layoutOf asked
+  fits k = let z : firstNo (sizeQuestion w h ∷ []) ≡ 0 = omega arith in rw z
+
+  pub no-size : 0 < n → layoutOf w h ≡ refused n
+  unfolding layoutOf asked
+  no-size k = refusal n e k
+    where
+      refusal : (m : ℕ) → m ≡ firstNo (sizeQuestion w h ∷ []) → 0 < m → byNumber (firstNo (sizeQuestion w h ∷ [])) (accepted (geometryOf w h)) ≡ refused m
+      refusal zero f j = absurd (omega arith)
+      refusal (suc m) f j = rw (← f)
 
 -- ---- rows of a field
 module _ (h r half : ℕ) (e : half ≡ alignedHeight h / 2) where

@@ -4,17 +4,25 @@ use mathlib.Core.List.{List, [], _∷_}
 use Prim.Native.Nat.{ℕ, zero, suc, _+_, _-_, _*_, _/_, _%_}
 use lib.Dec.{leb, ltb, eqb}
 use Rattle.ask.specs.Ask.{Answer, refused, accepted, Question, ask, asked}
+use Rattle.ask.specs.Limits.{sideMin, widthMax, heightMax, rowsHigh}
+use Rattle.ask.specs.Numbers.{noSize}
 
 -- v rounded up to a multiple of a
 abbrev pub alignUp : ℕ → ℕ → ℕ
 alignUp v a = (v + (a - 1)) / a * a
 
 -- question 9: "Width even, 16 to 7,680, height 16 to 4,320?"
+abbrev pub widthOk : ℕ → Bool
+widthOk w = eqb (w % 2) 0 && (leb sideMin w && leb w widthMax)
+
+abbrev pub heightOk : ℕ → Bool
+heightOk h = leb sideMin h && leb h heightMax
+
 abbrev pub sizeOk : ℕ → ℕ → Bool
-sizeOk w h = eqb (w % 2) 0 && (leb 16 w && (leb w 7680 && (leb 16 h && leb h 4320)))
+sizeOk w h = widthOk w && heightOk h
 
 abbrev pub sizeQuestion : ℕ → ℕ → Question
-sizeQuestion w h = ask (sizeOk w h) 9
+sizeQuestion w h = ask (sizeOk w h) noSize
 
 -- planes 0 and 3 have the luma stride, planes 1 and 2 the chroma stride
 abbrev pub lumaStride : ℕ → ℕ
@@ -24,18 +32,24 @@ abbrev pub chromaStride : ℕ → ℕ
 chromaStride w = alignUp (w / 2) 8
 
 abbrev pub alignedHeight : ℕ → ℕ
-alignedHeight h = alignUp h 16
+alignedHeight h = alignUp h rowsHigh
 
 -- slices of 16 rows
 abbrev pub sliceCount : ℕ → ℕ
-sliceCount h = alignedHeight h / 16
+sliceCount h = alignedHeight h / rowsHigh
 
 -- "Limits per stream: stride x 32 (DC), stride x 56 (AC), by the stride of plane 0."
+abbrev pub dcPerSample : ℕ
+dcPerSample = 32
+
+abbrev pub acPerSample : ℕ
+acPerSample = 56
+
 abbrev pub maxDcLen : ℕ → ℕ
-maxDcLen w = lumaStride w * 32
+maxDcLen w = lumaStride w * dcPerSample
 
 abbrev pub maxAcLen : ℕ → ℕ
-maxAcLen w = lumaStride w * 56
+maxAcLen w = lumaStride w * acPerSample
 
 -- "only heights 480, 576 and 1080 keep it"
 abbrev pub interlaceCapable : ℕ → Bool

@@ -1,8 +1,21 @@
 // Frame geometry (layout.rs): the sizes of a frame's planes and streams, and which image row is where.
+use ask::limits::HEIGHT_MAX;
+use ask::limits::ROWS;
+use ask::limits::SIDE_MIN;
+use ask::limits::WIDTH_MAX;
+use ask::numbers::NO_SIZE;
 ghost use mathlib.Core.Path.{_≡_};
+ghost use mathlib.Core.List.{[], _∷_};
 ghost use Prim.Native.Nat.{_/_, _≤_};
-ghost use Rattle.layout.specs.Geometry.{alignUp, sizeOk, alignedHeight, sliceCount, maxDcLen, maxAcLen, interlaceCapable, layoutOf, imageRowOf, previewWidth, previewHeight};
+ghost use Rattle.ask.specs.Ask.{firstNo};
+ghost use Rattle.ask.specs.Limits.{widthMax, heightMax};
+ghost use Rattle.layout.specs.Geometry.{alignUp, widthOk, heightOk, sizeOk, sizeQuestion, alignedHeight, sliceCount, maxDcLen, maxAcLen, interlaceCapable, layoutOf, imageRowOf, previewWidth, previewHeight};
 ghost use Rattle.layout.specs.Views.{layoutSays, rowSays};
+
+// Bytes that a stream may have for each sample of plane 0's stride.
+const DC_PER_SAMPLE: usize = 32;
+
+const AC_PER_SAMPLE: usize = 56;
 
 // The geometry of one frame size: strides in samples, stream limits in bytes.
 pub struct Layout {
@@ -23,28 +36,39 @@ pub enum LayoutAnswer {
     Refused(u32),
 }
 
+fn width_ok(width: usize) -> bool
+    ensures { λ r. ⌜ r ≡ widthOk width ⌝ }
+{
+    let sizes = ask::both(SIDE_MIN <= width, width <= WIDTH_MAX);
+    ask::both(width % 2 == 0, sizes)
+}
+
+fn height_ok(height: usize) -> bool
+    ensures { λ r. ⌜ r ≡ heightOk height ⌝ }
+{
+    ask::both(SIDE_MIN <= height, height <= HEIGHT_MAX)
+}
+
 // Whether question 9 is answered yes: width even, 16 to 7,680, height 16 to 4,320.
 pub fn size_ok(width: usize, height: usize) -> bool
     ensures { λ r. ⌜ r ≡ sizeOk width height ⌝ }
 {
-    if width % 2 != 0 {
-        return false;
-    }
-    if width < 16 {
-        return false;
-    }
-    if 7680 < width {
-        return false;
-    }
-    if height < 16 {
-        return false;
-    }
-    height <= 4320
+    let wide = width_ok(width);
+    let high = height_ok(height);
+    ask::both(wide, high)
+}
+
+// Question 9, put alone: its number, 0 where the answer is yes.
+fn size_number(width: usize, height: usize) -> u32
+    ensures { λ r. ⌜ r ≡ firstNo (sizeQuestion width height ∷ []) ⌝ }
+{
+    let size = size_ok(width, height);
+    ask::or_else(size, NO_SIZE, 0)
 }
 
 // v rounded up to a multiple of 8.
 fn align8(v: usize) -> usize
-    requires { ⌜ v ≤ 7680 ⌝ }
+    requires { ⌜ v ≤ widthMax ⌝ }
     ensures { λ r. ⌜ r ≡ alignUp v 8 ⌝ }
 {
     (v + 7) / 8 * 8
@@ -52,34 +76,34 @@ fn align8(v: usize) -> usize
 
 // h rounded up to whole slices of 16 rows.
 pub fn aligned_height(height: usize) -> usize
-    requires { ⌜ height ≤ 4320 ⌝ }
+    requires { ⌜ height ≤ heightMax ⌝ }
     ensures { λ r. ⌜ r ≡ alignedHeight height ⌝ }
 {
-    (height + 15) / 16 * 16
+    (height + (ROWS - 1)) / ROWS * ROWS
 }
 
 // How many slices a frame has.
 pub fn slice_count(height: usize) -> usize
-    requires { ⌜ height ≤ 4320 ⌝ }
+    requires { ⌜ height ≤ heightMax ⌝ }
     ensures { λ r. ⌜ r ≡ sliceCount height ⌝ }
 {
-    aligned_height(height) / 16
+    aligned_height(height) / ROWS
 }
 
 // The longest DC stream that a slice may have.
 pub fn max_dc_len(width: usize) -> usize
-    requires { ⌜ width ≤ 7680 ⌝ }
+    requires { ⌜ width ≤ widthMax ⌝ }
     ensures { λ r. ⌜ r ≡ maxDcLen width ⌝ }
 {
-    align8(width) * 32
+    align8(width) * DC_PER_SAMPLE
 }
 
 // The longest AC stream that a slice may have.
 pub fn max_ac_len(width: usize) -> usize
-    requires { ⌜ width ≤ 7680 ⌝ }
+    requires { ⌜ width ≤ widthMax ⌝ }
     ensures { λ r. ⌜ r ≡ maxAcLen width ⌝ }
 {
-    align8(width) * 56
+    align8(width) * AC_PER_SAMPLE
 }
 
 impl Layout {
@@ -87,26 +111,26 @@ impl Layout {
     pub fn new(width: usize, height: usize) -> LayoutAnswer
         ensures { λ r. ⌜ layoutSays r ≡ layoutOf width height ⌝ }
     {
-        if size_ok(width, height) {
-            let luma = align8(width);
-            let chroma = align8(width / 2);
-            let aligned_height = aligned_height(height);
-            let slices = slice_count(height);
-            let max_dc_len = max_dc_len(width);
-            let max_ac_len = max_ac_len(width);
-            LayoutAnswer::Fits(Layout {
-                width,
-                height,
-                aligned_height,
-                slices,
-                luma,
-                chroma,
-                max_dc_len,
-                max_ac_len,
-            })
-        } else {
-            LayoutAnswer::Refused(9)
+        let x = size_number(width, height);
+        if 0 < x {
+            return LayoutAnswer::Refused(x);
         }
+        let luma = align8(width);
+        let chroma = align8(width / 2);
+        let aligned_height = aligned_height(height);
+        let slices = slice_count(height);
+        let max_dc_len = max_dc_len(width);
+        let max_ac_len = max_ac_len(width);
+        LayoutAnswer::Fits(Layout {
+            width,
+            height,
+            aligned_height,
+            slices,
+            luma,
+            chroma,
+            max_dc_len,
+            max_ac_len,
+        })
     }
 }
 
@@ -132,10 +156,10 @@ pub enum RowAnswer {
 fn half_height(height: usize) -> usize
     ensures { λ r. ⌜ r ≡ alignedHeight height / 2 ⌝ }
 {
-    if height % 16 == 0 {
-        height / 16 * 8
+    if height % ROWS == 0 {
+        height / ROWS * (ROWS / 2)
     } else {
-        (height / 16 + 1) * 8
+        (height / ROWS + 1) * (ROWS / 2)
     }
 }
 

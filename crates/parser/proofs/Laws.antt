@@ -9,6 +9,7 @@ use lib.Dec.{ltb}
 use lib.ListN.{length}
 use borrow.Author.Tests.{lt-ltb, le-ltb, ltb-true, ltb-false}
 use Rattle.ask.specs.Ask.{Answer, refused, accepted, ask, firstNo, asked, andThen, byNumber}
+use Rattle.ask.specs.Numbers.{noTurn}
 use Rattle.layout.specs.Geometry.{sliceCount, maxDcLen, maxAcLen}
 use Rattle.layout.specs.Views.{isAc}
 use Rattle.parser.proofs.streams.Laws.{one-inside, streams-inside, one-end}
@@ -125,11 +126,11 @@ module _ (w h : ℕ) (f : List ℕ) (ac : Bool) (slice : ℕ) where
   view-no e = rw e
 
   module _ {r : FrameRead} (e : parseOf w h f ≡ accepted r) where
-    pub view-beyond : sliceCount h ≤ slice → viewOf w h f ac slice ≡ refused 14
+    pub view-beyond : sliceCount h ≤ slice → viewOf w h f ac slice ≡ refused noTurn
     unfolding viewOf asked firstNo
     view-beyond k = rw (e, le-ltb slice (sliceCount h) k)
 
-    pub view-unwanted : slice < sliceCount h → wanted ac r ≡ false → viewOf w h f ac slice ≡ refused 14
+    pub view-unwanted : slice < sliceCount h → wanted ac r ≡ false → viewOf w h f ac slice ≡ refused noTurn
     unfolding viewOf asked firstNo
     view-unwanted k d = rw (e, lt-ltb slice (sliceCount h) k, d)
 
@@ -139,11 +140,11 @@ module _ (w h : ℕ) (f : List ℕ) (ac : Bool) (slice : ℕ) where
 
 -- question 14 about the slice alone
 module _ (slice n : ℕ) (a : Answer View) where
-  pub slice-no : n ≤ slice → asked (ask (ltb slice n) 14 ∷ []) a ≡ refused 14
+  pub slice-no : n ≤ slice → asked (ask (ltb slice n) noTurn ∷ []) a ≡ refused noTurn
   unfolding asked firstNo
   slice-no k = rw (le-ltb slice n k)
 
-  pub slice-yes : slice < n → asked (ask (ltb slice n) 14 ∷ []) a ≡ a
+  pub slice-yes : slice < n → asked (ask (ltb slice n) noTurn ∷ []) a ≡ a
   unfolding asked firstNo
   slice-yes k = rw (lt-ltb slice n k)
 
@@ -156,22 +157,22 @@ module _ (w h : ℕ) (f : List ℕ) (slice : ℕ) {n : ℕ} {r : FrameRead} (c :
       go true x = below (ltb-true slice n x)
       go false x = above (ltb-false slice n x)
 
-  beyond : (ac : Bool) → n ≤ slice → viewOf w h f ac slice ≡ refused 14
+  beyond : (ac : Bool) → n ≤ slice → viewOf w h f ac slice ≡ refused noTurn
   beyond ac g = view-beyond w h f ac slice e (omega arith)
 
-  kind-view : (ac : Bool) {a : Answer View} → wanted ac r ≡ true → (slice < n → a ≡ kindView ac w h f slice) → asked (ask (ltb slice n) 14 ∷ []) a ≡ viewOf w h f ac slice
+  kind-view : (ac : Bool) {a : Answer View} → wanted ac r ≡ true → (slice < n → a ≡ kindView ac w h f slice) → asked (ask (ltb slice n) noTurn ∷ []) a ≡ viewOf w h f ac slice
   kind-view ac {a} d v =
       either
       (λ l. slice-yes slice n a l ∙ v l ∙ sym (view-yes w h f ac slice e (omega arith) d))
       (λ g. slice-no slice n a g ∙ sym (beyond ac g))
 
-  pub dc-wanted : {k : Kind} {a : Answer View} → k ≡ kind.Dc → (slice < n → a ≡ kindView false w h f slice) → asked (ask (ltb slice n) 14 ∷ []) a ≡ viewOf w h f (isAc k) slice
+  pub dc-wanted : {k : Kind} {a : Answer View} → k ≡ kind.Dc → (slice < n → a ≡ kindView false w h f slice) → asked (ask (ltb slice n) noTurn ∷ []) a ≡ viewOf w h f (isAc k) slice
   dc-wanted d v = rw d (kind-view false refl v)
 
-  pub ac-wanted : {k : Kind} {a : Answer View} → k ≡ kind.Ac → r .acThere ≡ true → (slice < n → a ≡ kindView true w h f slice) → asked (ask (ltb slice n) 14 ∷ []) a ≡ viewOf w h f (isAc k) slice
+  pub ac-wanted : {k : Kind} {a : Answer View} → k ≡ kind.Ac → r .acThere ≡ true → (slice < n → a ≡ kindView true w h f slice) → asked (ask (ltb slice n) noTurn ∷ []) a ≡ viewOf w h f (isAc k) slice
   ac-wanted d t v = rw d (kind-view true t v)
 
-  pub ac-missing : {k : Kind} → k ≡ kind.Ac → r .acThere ≡ false → refused 14 ≡ viewOf w h f (isAc k) slice
+  pub ac-missing : {k : Kind} → k ≡ kind.Ac → r .acThere ≡ false → refused noTurn ≡ viewOf w h f (isAc k) slice
   ac-missing d t = rw d (sym (either (λ l. view-unwanted w h f true slice e (omega arith) t) (beyond true)))
 
 -- ---- a view lies in the frame
@@ -207,8 +208,8 @@ pub view-inside : (w h : ℕ) (f : List ℕ) (ac : Bool) (slice : ℕ) {v : View
 unfolding viewOf asked
 view-inside w h f ac slice {v} e =
     rw e at
-    (after-held f (parseOf w h f) (λ r. byNumber (firstNo (ask (ltb slice (sliceCount h) && wanted ac r) 14 ∷ [])) (kindView ac w h f slice))
-    (λ r. number-held f (firstNo (ask (ltb slice (sliceCount h) && wanted ac r) 14 ∷ [])) (kindView ac w h f slice)
+    (after-held f (parseOf w h f) (λ r. byNumber (firstNo (ask (ltb slice (sliceCount h) && wanted ac r) noTurn ∷ [])) (kindView ac w h f slice))
+    (λ r. number-held f (firstNo (ask (ltb slice (sliceCount h) && wanted ac r) noTurn ∷ [])) (kindView ac w h f slice)
     (after-held f (kindStart ac w h f) (λ p. nthStream slice (kindLimit ac w) f p) (λ p. nth-held f slice (kindLimit ac w) p))))
 
 pub part-size : (p n : ℕ) → p + n - p ≡ n

@@ -4,7 +4,8 @@ use mathlib.Core.List.{List, [], _∷_}
 use Prim.Native.Nat.{ℕ, _+_}
 use lib.Dec.{ltb}
 use lib.ListN.{length, take, drop}
-use Rattle.ask.specs.Ask.{Answer, refused, accepted, ask, asked, andThen}
+use Rattle.ask.specs.Ask.{Answer, refused, accepted, ask, asked, andThen, numberIn}
+use Rattle.ask.specs.Numbers.{noTurn}
 use Rattle.layout.specs.Geometry.{sliceCount, maxDcLen, maxAcLen}
 use Rattle.parser.specs.streams.Streams.{lengthAt, oneStream, streams}
 use Rattle.parser.specs.head.Header.{headerLength, headerQuestions, FrameRead, frameRead}
@@ -59,10 +60,21 @@ kindView ac w h f slice = andThen (kindStart ac w h f) (λ p. nthStream slice (k
 unfoldable pub viewOf : ℕ → ℕ → List ℕ → Bool → ℕ → Answer View
 viewOf w h f ac slice =
     andThen (parseOf w h f) (λ r.
-    asked (ask (ltb slice (sliceCount h) && wanted ac r) 14 ∷ [])
+    asked (ask (ltb slice (sliceCount h) && wanted ac r) noTurn ∷ [])
     (kindView ac w h f slice))
 
 -- "A refusal yields the number, .. an empty part for a view"
 abbrev pub viewPart : List ℕ → Answer View → List ℕ
 viewPart f (refused n) = []
 viewPart f (accepted v) = take (v .size) (drop (v .offset) f)
+
+-- what a call hands out: the number, and that part of the frame
+pub record Viewed : Type 0 where
+  pub number : ℕ
+  pub part : List ℕ
+
+abbrev pub viewedAs : ℕ → List ℕ → Viewed
+viewedAs n part = record { number = n; part = part }
+
+abbrev pub viewHanded : List ℕ → Answer View → Viewed
+viewHanded f a = viewedAs (numberIn a) (viewPart f a)

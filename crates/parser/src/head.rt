@@ -2,11 +2,17 @@
 //
 // It is a format byte, the quality and the slice count modulo 256; a format byte of 3 is followed by the DC shift and a
 // second format byte.
+use ask::numbers::NO_BYTES;
+use ask::numbers::NO_COUNT;
+use ask::numbers::NO_FORMAT;
+use ask::numbers::NO_SHIFT;
+use ask::numbers::NO_SIZE;
 ghost use mathlib.Core.Path.{_≡_};
 ghost use Prim.Native.Nat.{_≤_};
 ghost use lib.ListN.{length};
 ghost use Rattle.ask.specs.Ask.{firstNo};
-ghost use Rattle.parser.specs.head.Header.{formatAt, shiftIn, isInterlaced, countOk, headerQuestions, frameRead};
+ghost use Rattle.ask.specs.Limits.{heightMax};
+ghost use Rattle.parser.specs.head.Header.{formatAt, formatOk, shiftIn, isInterlaced, sliceCountOk, byteQuestions, headerQuestions, frameRead};
 ghost use Rattle.parser.specs.head.Views.{headerSays};
 
 // What is read of a frame's header, and whether AC streams follow.
@@ -38,9 +44,9 @@ fn is_interlaced(f: &[u8], height: usize) -> bool
 }
 
 // Whether the slice count in the header is the layout's, modulo 256.
-fn count_ok(height: usize, f: &[u8]) -> bool
-    requires { ⌜ (5 ≤ length (now f)) × (height ≤ 4320) ⌝ }
-    ensures { λ r. ⌜ r ≡ countOk height (now (f .entry)) ⌝ }
+fn slice_count_ok(height: usize, f: &[u8]) -> bool
+    requires { ⌜ (5 ≤ length (now f)) × (height ≤ heightMax) ⌝ }
+    ensures { λ r. ⌜ r ≡ sliceCountOk height (now (f .entry)) ⌝ }
 {
     crate::streams::wide(f[format_at(f) + 2]) == layout::slice_count(height) % 256
 }
@@ -53,29 +59,40 @@ fn shift_in(f: &[u8]) -> u8
     if f[0] == 3 { f[1] } else { 0 }
 }
 
-// The first "no" among the questions about the header, 0 where there is none.
+// Whether the first byte is 1, 2 or 3.
+fn format_ok(f: &[u8]) -> bool
+    requires { ⌜ 5 ≤ length (now f) ⌝ }
+    ensures { λ r. ⌜ r ≡ formatOk (now (f .entry)) ⌝ }
+{
+    let first = f[0];
+    ask::both(1 <= first, first <= 3)
+}
+
+// The first "no" among the questions about the header's bytes, 0 where there is none.
+fn byte_number(height: usize, f: &[u8]) -> u32
+    requires { ⌜ (5 ≤ length (now f)) × (height ≤ heightMax) ⌝ }
+    ensures { λ r. ⌜ r ≡ firstNo (byteQuestions height (now (f .entry))) ⌝ }
+{
+    let format = format_ok(f);
+    let shift = ask::shift_ok(shift_in(f) as u32);
+    let count = slice_count_ok(height, f);
+    let from_count = ask::or_else(count, NO_COUNT, 0);
+    let from_shift = ask::or_else(shift, NO_SHIFT, from_count);
+    ask::or_else(format, NO_FORMAT, from_shift)
+}
+
+// The first "no" among the questions about the header, 0 where there is none. No byte is read before the answers about the
+// size and the five bytes are yes: there the call returns early.
 pub fn header_number(width: usize, height: usize, f: &[u8]) -> u32
     ensures { λ r. ⌜ r ≡ firstNo (headerQuestions width height (now (f .entry))) ⌝ }
 {
-    if layout::size_ok(width, height) {
-        if f.len() < 5 {
-            return 10;
-        }
-        if f[0] < 1 {
-            return 11;
-        }
-        if 3 < f[0] {
-            return 11;
-        }
-        if 15 < shift_in(f) {
-            return 2;
-        }
-        if count_ok(height, f) {
-            return 0;
-        }
-        return 12;
+    let size = layout::size_ok(width, height);
+    let from_bytes = ask::or_else(5 <= f.len(), NO_BYTES, 0);
+    let before = ask::or_else(size, NO_SIZE, from_bytes);
+    if 0 < before {
+        return before;
     }
-    9
+    byte_number(height, f)
 }
 
 // What the header says.

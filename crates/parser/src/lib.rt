@@ -6,17 +6,19 @@ pub mod streams;
 
 use crate::head::Header;
 use crate::streams::Place;
+use ask::numbers::NO_TURN;
 use layout::Kind;
 ghost use mathlib.Core.Path.{_≡_};
 ghost use mathlib.Core.List.{[], _∷_};
 ghost use Prim.Native.Nat.{ℕ, _<_, _≤_};
 ghost use lib.Dec.{ltb};
 ghost use lib.ListN.{length};
-ghost use Rattle.ask.specs.Ask.{accepted, ask, asked, numberIn};
+ghost use Rattle.ask.specs.Ask.{accepted, ask, asked};
+ghost use Rattle.ask.specs.Numbers.{noTurn};
 ghost use Rattle.layout.specs.Views.{isAc};
 ghost use Rattle.parser.specs.streams.Streams.{streams};
 ghost use Rattle.parser.specs.streams.Views.{placeSays};
-ghost use Rattle.parser.specs.Frame.{parseOf, nthStream, viewOf, viewPart};
+ghost use Rattle.parser.specs.Frame.{parseOf, nthStream, viewOf, viewedAs, viewHanded};
 ghost use Rattle.parser.specs.Views.{frameSays, viewSays};
 
 pub enum FrameAnswer {
@@ -55,10 +57,12 @@ pub fn parse(width: usize, height: usize, frame: &[u8]) -> FrameAnswer
     }
 }
 
-// The place behind the n streams at p. Notes where the one behind `skip` others begins, if it is one of them.
+// The place after the n streams at p. Notes where the one after `skip` others begins, if it is one of them.
 fn walk_past(f: &[u8], n: usize, limit: usize, p: usize, skip: usize, noted: &mut usize) -> Place
     requires { ⌜ p ≤ length (now f) ⌝ }
-    ensures { λ r. ⌜ (placeSays r ≡ streams n limit (now (f .entry)) p) × ((e : ℕ) → streams n limit (now (f .entry)) p ≡ accepted e → skip < n → streams skip limit (now (f .entry)) p ≡ accepted (now (noted .exit))) ⌝ }
+    ensures { λ r. ⌜ (placeSays r ≡ streams n limit (now (f .entry)) p)
+        × ((e : ℕ) → streams n limit (now (f .entry)) p ≡ accepted e → skip < n
+        → streams skip limit (now (f .entry)) p ≡ accepted (now (noted .exit))) ⌝ }
 {
     let k = if skip < n { skip } else { n };
     match crate::streams::walk(f, k, limit, p) {
@@ -70,13 +74,14 @@ fn walk_past(f: &[u8], n: usize, limit: usize, p: usize, skip: usize, noted: &mu
     }
 }
 
-// The part of the stream at q, which is that of a slice; refused where the slice is none of the n.
+// The part of the stream at q, which is that of a slice; refused where the slice is none of the n. A stream is read only of a
+// slice that is there, so the "no" returns early.
 fn part_at(f: &[u8], limit: usize, q: usize, slice: usize, n: usize) -> ViewAnswer
     requires { ⌜ (slice < n → q ≤ length (now f)) ⌝ }
-    ensures { λ r. ⌜ viewSays r ≡ asked (ask (ltb slice n) 14 ∷ []) (nthStream 0 limit (now (f .entry)) q) ⌝ }
+    ensures { λ r. ⌜ viewSays r ≡ asked (ask (ltb slice n) noTurn ∷ []) (nthStream 0 limit (now (f .entry)) q) ⌝ }
 {
     if n <= slice {
-        return ViewAnswer::Refused(14);
+        return ViewAnswer::Refused(NO_TURN);
     }
     match crate::streams::one_stream(f, limit, q) {
         Place::Refused(x) => ViewAnswer::Refused(x),
@@ -112,7 +117,7 @@ pub fn view_at(width: usize, height: usize, frame: &[u8], kind: Kind, slice: usi
             } else {
                 match kind {
                     Kind::Dc => part_at(frame, max_dc_len, dc, slice, slices),
-                    Kind::Ac => ViewAnswer::Refused(14),
+                    Kind::Ac => ViewAnswer::Refused(NO_TURN),
                 }
             }
         }
@@ -129,7 +134,8 @@ pub fn stream<'a>(
     slice: usize,
     number: &mut u32,
 ) -> &'a [u8]
-    ensures { λ r. ⌜ (now r ≡ viewPart (now (frame .entry)) (viewOf width height (now (frame .entry)) (isAc kind) slice)) × (now (number .exit) ≡ numberIn (viewOf width height (now (frame .entry)) (isAc kind) slice)) ⌝ }
+    ensures { λ r. ⌜ viewedAs (now (number .exit)) (now r)
+        ≡ viewHanded (now (frame .entry)) (viewOf width height (now (frame .entry)) (isAc kind) slice) ⌝ }
 {
     match view_at(width, height, frame, kind, slice) {
         ViewAnswer::Refused(x) => {

@@ -1,4 +1,6 @@
 // The streams of a frame (layout.rs): one behind the other, each after a 32-bit length, low byte first.
+use ask::numbers::NO_BYTES;
+use ask::numbers::NO_LIMIT;
 ghost use mathlib.Core.Path.{_≡_};
 ghost use Prim.Native.Nat.{_+_, _≤_, _<_};
 ghost use lib.ListN.{length};
@@ -26,26 +28,26 @@ pub enum Place {
     Refused(u32),
 }
 
-// The place behind the stream at p.
+// The place after the stream at p. Its length word is read only where its four bytes are there, so each "no" returns early.
 pub fn one_stream(f: &[u8], limit: usize, p: usize) -> Place
     requires { ⌜ p ≤ length (now f) ⌝ }
     ensures { λ r. ⌜ placeSays r ≡ oneStream limit (now (f .entry)) p ⌝ }
 {
     let left = f.len() - p;
     if left < 4 {
-        return Place::Refused(10);
+        return Place::Refused(NO_BYTES);
     }
     let n = length_at(f, p);
     if limit < n {
-        return Place::Refused(13);
+        return Place::Refused(NO_LIMIT);
     }
     if left - 4 < n {
-        return Place::Refused(10);
+        return Place::Refused(NO_BYTES);
     }
     Place::At(p + 4 + n)
 }
 
-// The place behind the n streams at p.
+// The place after the n streams at p.
 pub fn walk(f: &[u8], n: usize, limit: usize, p: usize) -> Place
     requires { ⌜ p ≤ length (now f) ⌝ }
     ensures { λ r. ⌜ placeSays r ≡ streams n limit (now (f .entry)) p ⌝ }

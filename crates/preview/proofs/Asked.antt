@@ -12,10 +12,11 @@ use Rattle.bits.specs.Bits.{bitAt}
 use Rattle.bits.specs.Lay.{lay}
 use Rattle.calls.specs.ReadPlane.{DcSteps, badSteps, dcSteps, readSteps}
 use Rattle.calls.specs.Grid.{blocksOf}
-use Rattle.calls.specs.Questions.{strideOk, previewQuestions}
+use Rattle.calls.specs.Questions.{previewQuestions}
 use Rattle.calls.specs.Previews.{Previewed, previewBytes, previewedBy, preview}
 use Rattle.blockread.specs.dc.Steps.{goodSteps, stepList, dcEnd}
 use Rattle.preview.specs.row.Row.{Stored}
+use Rattle.ask.specs.Limits.{strideOk}
 
 module _ (shift place stride : ℕ) (upper lower : List ℕ) (bytes at : ℕ) where
   abbrev F : ℕ

@@ -63,7 +63,7 @@ pub fn plane_good(dc: &[u8], at: usize, columns: usize) -> bool
 // The first "no" among the questions, 0 where there is none; the outputs have room for so many bytes, the stream has so many.
 fn preview_number(
     shift: u32,
-    place: u32,
+    place: usize,
     stride: usize,
     over: usize,
     under: usize,
@@ -99,7 +99,7 @@ fn preview_number(
 // One byte a block, two output rows; and the byte where the plane's DC stream ends.
 pub fn preview(
     shift: u32,
-    place: u32,
+    place: usize,
     stride: usize,
     upper: &mut [u8],
     lower: &mut [u8],
@@ -114,15 +114,7 @@ pub fn preview(
     }
     let columns = stride / 8;
     if plane_good(dc, at, columns) {
-        return PlaneEnd::At(crate::row::store_preview(
-            shift,
-            place as usize,
-            columns,
-            upper,
-            lower,
-            dc,
-            at,
-        ));
+        return PlaneEnd::At(crate::row::store_preview(shift, place, columns, upper, lower, dc, at));
     }
     PlaneEnd::Refused(8)
 }

@@ -43,7 +43,7 @@ pub extern "C" fn probe_blocks_forward8(
     }
     let k = tables::reciprocals::encode_numbers(preset);
     for i in 0..stride / 8 {
-        let z = dct::forward::fdct_quant_zig8(&rows[8 * i..], stride, 128, preset, &k);
+        let z = dct::forward::fdct_quant_zig8(&rows[8 * i..], stride, 128, &k);
         put_block(out, z);
     }
 }
@@ -70,7 +70,7 @@ pub extern "C" fn probe_blocks_forward16(
     }
     let k = tables::reciprocals::encode_numbers(preset);
     for i in 0..stride / 8 {
-        let z = dct::forward::fdct_quant_zig16(&rows[8 * i..], stride, 512, preset, &k);
+        let z = dct::forward::fdct_quant_zig16(&rows[8 * i..], stride, 512, &k);
         put_block(out, z);
     }
 }
@@ -120,7 +120,7 @@ fn inverse(
     }
     let d = tables::decode_numbers(preset);
     for i in 0..stride / 8 {
-        let v = dct::inverse::idct_core(block(nat), preset, &d, deep);
+        let v = dct::inverse::idct_core(block(nat), &d, deep);
         put(deep, rows8, rows16, 8 * i, stride, v, level);
     }
 }

@@ -21,7 +21,7 @@ pub extern "C" fn probe_dct_forward(
 ) {
     if preset < 25 {
         let k = tables::reciprocals::encode_numbers(preset);
-        let z = dct::forward::fdct_quant_zig(block(rows), add, column_shift(ten), preset, &k);
+        let z = dct::forward::fdct_quant_zig(block(rows), add, column_shift(ten), &k);
         put_block(out, z);
     }
 }
@@ -48,7 +48,7 @@ pub extern "C" fn probe_dct_inverse8(
         return;
     }
     let d = tables::decode_numbers(preset);
-    let v = dct::inverse::idct_core(block(nat), preset, &d, false);
+    let v = dct::inverse::idct_core(block(nat), &d, false);
     dct::inverse::store8(rows, stride, v, level);
 }
 
@@ -74,7 +74,7 @@ pub extern "C" fn probe_dct_inverse16(
         return;
     }
     let d = tables::decode_numbers(preset);
-    let v = dct::inverse::idct_core(block(nat), preset, &d, true);
+    let v = dct::inverse::idct_core(block(nat), &d, true);
     dct::inverse::store16(rows, stride, v, level);
 }
 

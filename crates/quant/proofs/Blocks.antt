@@ -7,10 +7,11 @@ use lib.Dec.{lit<}
 use lib.IntN.{ℤ, pos}
 use lib.ListN.{length, getD}
 use Rattle.scalar.proofs.Fill.{length-tab, getD-tab, tab-ext, list-tab}
-use Rattle.tables.specs.Divisor.{divisor}
+use Rattle.tables.specs.Divisor.{divisor, divisorsOf}
 use Rattle.tables.specs.Zigzag.{zigzagAt, unzigzagAt}
+use Rattle.tables.proofs.Places.{divisors-at}
 use Rattle.tables.proofs.Scan.{zigzag-unzigzag, unzigzag-zigzag, zigzag-below, unzigzag-below, zigzag-first}
-use Rattle.quant.specs.Quantise.{coefficient, roundedDivision, quantiseOf, scanOf, naturalOf, dequantised, dequantiseBy}
+use Rattle.quant.specs.Quantise.{coefficient, roundedDivision, quantiseOf, scanOf, naturalOf, dequantised, dequantiseWith, dequantiseBy}
 
 pub quantise-length : (p : ℕ) (l : List ℤ) → length (quantiseOf p l) ≡ 64
 unfolding quantiseOf
@@ -59,3 +60,8 @@ dequantise-length s p l = length-tab 64 (λ i. dequantised s (divisor p i) (coef
 pub dequantise-at : (s p : ℕ) (l : List ℤ) (i : ℕ) → i < 64 → coefficient (dequantiseBy s p l) i ≡ dequantised s (divisor p i) (coefficient l i)
 unfolding dequantiseBy
 dequantise-at s p l i h = getD-tab 64 (λ i. dequantised s (divisor p i) (coefficient l i)) i (pos 0) h
+
+-- the divisors of a preset
+pub dequantise-with : (s p : ℕ) (d : List ℕ) (l : List ℤ) → d ≡ divisorsOf p → dequantiseWith s d l ≡ dequantiseBy s p l
+unfolding dequantiseWith dequantiseBy
+dequantise-with s p d l e = tab-ext 64 (λ i h. ap (λ (z : ℕ). dequantised s z (coefficient l i)) (divisors-at p i d e h))

@@ -1,22 +1,36 @@
 -- What the two high multiplies make of a coefficient with the numbers of its place.
-use mathlib.Core.Path.{_≡_, ap, _∙_}
+use mathlib.Core.Path.{_≡_, refl, ap, subst}
+use mathlib.Core.Bool.{Bool, true, false}
 use mathlib.Core.List.{List}
 use Prim.Native.Nat.{ℕ, _+_, _<_}
 use native.Mathlib.Omega.{arith}
+use lib.Dec.{ltb}
+use borrow.Author.Tests.{ltb-true, ltb-false}
 use lib.IntN.{ℤ, natAbs}
 use lib.ListN.{getD}
 use mir.Syntax.{w16}
-use mir.Val.{SFits, toZ}
-use mir.Facts.{toZ-pos}
-use Rattle.scalar.specs.Scalar.{mulloOf, sraOf}
-use Rattle.tables.specs.Divisor.{divisor, divisorsOf}
+use mir.Val.{SFits}
+use Rattle.tables.specs.Divisor.{divisor}
 use Rattle.tables.specs.Reciprocal.{twoHigh, rounded}
 use Rattle.tables.specs.Entries.{encodeOf}
 use Rattle.tables.proofs.Rounding.{entry-rounds, correction-small, rounded-bound}
-use Rattle.tables.proofs.Places.{encode-correction, encode-reciprocal, encode-scale, divisors-at}
-use Rattle.tables.proofs.Sizes.{divisor-high}
-use Rattle.quant.specs.Quantise.{withSign, roundedDivision, dequantised}
+use Rattle.tables.proofs.Places.{encode-correction, encode-reciprocal, encode-scale}
+use Rattle.quant.specs.Quantise.{coefficient, withSign, roundedDivision}
 use Rattle.quant.proofs.one.Signs.{magnitude-small}
+
+-- what holds below i, and at i
+pub one-more : {P : ℕ → Type 0} (i : ℕ) → P i → ((j : ℕ) → j < i → P j) → (j : ℕ) → j < i + 1 → P j
+one-more {P} i x f j h = go (ltb j i) refl
+  where
+    go : (t : Bool) → ltb j i ≡ t → P j
+    go true e = f j (ltb-true j i e)
+    go false e =
+        let s : i ≡ j = omega (arith, ltb-false j i e) in
+        subst P s x
+
+-- what the code makes of the coefficient at place i with the numbers k
+abbrev pub multipliedAt : List ℕ → List ℤ → ℕ → ℤ
+multipliedAt k l i = withSign (coefficient l i) (twoHigh (getD k i 0) (getD k (64 + i) 0) (getD k (128 + i) 0) (natAbs (coefficient l i)))
 
 module _ (p i : ℕ) (k : List ℕ) (x : ℤ) (hp : p < 25) (hi : i < 64) (e : k ≡ encodeOf p) (h : SFits w16 x) where
   multiplied : twoHigh (getD k i 0) (getD k (64 + i) 0) (getD k (128 + i) 0) (natAbs x) ≡ rounded (natAbs x) (divisor p i)
@@ -33,11 +47,3 @@ module _ (p i : ℕ) (k : List ℕ) (x : ℤ) (hp : p < 25) (hi : i < 64) (e : k
   pub entry-divides : withSign x (twoHigh (getD k i 0) (getD k (64 + i) 0) (getD k (128 + i) 0) (natAbs x)) ≡ roundedDivision x (divisor p i)
   unfolding roundedDivision
   entry-divides = ap (withSign x) multiplied
-
--- the divisors have less than 16 bits, so the multiply reads them as they are
-pub entry-restores : (s p i : ℕ) (d : List ℕ) (x : ℤ) → p < 25 → i < 64 → d ≡ divisorsOf p
-    → sraOf (mulloOf x (toZ w16 (getD d i 0))) s ≡ dequantised s (divisor p i) x
-unfolding dequantised
-entry-restores s p i d x hp hi e =
-    let k : divisor p i < 32768 = omega (arith, divisor-high p i hp hi) in
-    rw (divisors-at p i d e hi, toZ-pos w16 k)

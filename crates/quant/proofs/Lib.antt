@@ -2,4 +2,5 @@ pub mod Signs
 pub mod Blocks
 pub mod Bounds
 mod Entry
+mod Unsigned
 pub mod Vectors

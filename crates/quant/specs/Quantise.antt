@@ -3,6 +3,7 @@ use mathlib.Core.Bool.{Bool, true, false}
 use mathlib.Core.List.{List}
 use Prim.Native.Nat.{ℕ}
 use lib.IntN.{ℤ, pos, natAbs}
+use lib.ListN.{getD}
 use Rattle.scalar.specs.Scalar.{mulloOf, sraOf}
 use Rattle.scalar.specs.Tab.{tab}
 use Rattle.tables.specs.Divisor.{divisor}
@@ -28,7 +29,11 @@ naturalOf l = tab 64 (λ j. coefficient l (unzigzagAt j))
 unfoldable pub dequantised : ℕ → ℕ → ℤ → ℤ
 dequantised shift d n = sraOf (mulloOf n (pos d)) shift
 
--- the dequantised block, by a shift, natural order
+-- the block dequantised by the divisors d and a shift, natural order
+unfoldable pub dequantiseWith : ℕ → List ℕ → List ℤ → List ℤ
+dequantiseWith shift d l = tab 64 (λ i. dequantised shift (getD d i 0) (coefficient l i))
+
+-- the same by a preset's divisors
 unfoldable pub dequantiseBy : ℕ → ℕ → List ℤ → List ℤ
 dequantiseBy shift preset l = tab 64 (λ i. dequantised shift (divisor preset i) (coefficient l i))
 

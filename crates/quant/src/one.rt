@@ -2,7 +2,7 @@
 ghost use mathlib.Core.Path.{_≡_};
 ghost use Prim.Native.Nat.{_<_};
 ghost use lib.IntN.{natAbs};
-ghost use Rattle.tables.specs.Reciprocal.{high, twoHigh};
+ghost use Rattle.tables.specs.Reciprocal.{highHalf, twoHigh};
 ghost use Rattle.quant.specs.one.Sign.{withSign};
 
 // The magnitude of x: 32768 for -32768.
@@ -14,7 +14,7 @@ pub fn magnitude(x: i16) -> u16
 
 // The high 16 bits of a product (_mm_mulhi_epu16).
 pub fn mulhi_u(a: u16, b: u16) -> u16
-    ensures { λ r. ⌜ r ≡ high a b ⌝ }
+    ensures { λ r. ⌜ r ≡ highHalf a b ⌝ }
 {
     ((a as u32 * b as u32) >> 16) as u16
 }

@@ -1,4 +1,3 @@
-pub mod Streams
 pub mod Code
 pub mod Read
 pub mod Size

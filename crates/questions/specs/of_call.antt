@@ -1,1 +1,1 @@
-pub mod ByNumbers
+pub mod Numbers

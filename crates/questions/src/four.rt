@@ -1,11 +1,13 @@
 // A question about the first `count` of four planes; a count above 4 takes all four.
 ghost use mathlib.Core.Path.{_≡_};
 ghost use mathlib.Core.List.{[], _∷_};
-ghost use Prim.Native.Nat.{_/_};
+ghost use Prim.Native.Nat.{_/_, _^_, _<_};
 ghost use lib.Dec.{leb};
-ghost use lib.ListN.{take};
-ghost use Rattle.calls.specs.Questions.{strideOk, rowsNeeded};
-ghost use Rattle.questions.specs.four.Firsts.{allOf, sumOf};
+ghost use lib.ListN.{take, getD};
+ghost use Rattle.ask.specs.Limits.{strideOk, rowsNeeded};
+ghost use Rattle.calls.specs.Views.{strideBy};
+ghost use Rattle.questions.specs.four.Firsts.{ofFour, allOf, sumOf};
+use calls::Four;
 
 // Whether the first `count` of four answers are yes.
 fn all_ok(count: usize, b0: bool, b1: bool, b2: bool, b3: bool) -> bool
@@ -36,52 +38,57 @@ fn all_ok(count: usize, b0: bool, b1: bool, b2: bool, b3: bool) -> bool
 }
 
 // Question 4.
-pub fn strides_ok(count: usize, s0: usize, s1: usize, s2: usize, s3: usize) -> bool
-    ensures { λ r. ⌜ r ≡ allOf (take count (strideOk s0 ∷ strideOk s1 ∷ strideOk s2 ∷ strideOk s3 ∷ [])) ⌝ }
+pub fn strides_ok(f: Four) -> bool
+    ensures { λ r. ⌜ r ≡ allOf (take (f .count) (ofFour (λ k. strideOk (strideBy f k)))) ⌝ }
 {
-    let b0 = crate::one::stride_ok(s0);
-    let b1 = crate::one::stride_ok(s1);
-    let b2 = crate::one::stride_ok(s2);
-    let b3 = crate::one::stride_ok(s3);
-    all_ok(count, b0, b1, b2, b3)
+    let s = f.strides;
+    let b0 = ask::stride_ok(s[0]);
+    let b1 = ask::stride_ok(s[1]);
+    let b2 = ask::stride_ok(s[2]);
+    let b3 = ask::stride_ok(s[3]);
+    all_ok(f.count, b0, b1, b2, b3)
 }
 
-// Question 5.
-pub fn rows_ok(
-    count: usize,
-    s0: usize,
-    r0: usize,
-    s1: usize,
-    r1: usize,
-    s2: usize,
-    r2: usize,
-    s3: usize,
-    r3: usize,
-) -> bool
-    ensures { λ r. ⌜ r ≡ allOf (take count (leb (rowsNeeded s0) r0 ∷ leb (rowsNeeded s1) r1 ∷ leb (rowsNeeded s2) r2 ∷ leb (rowsNeeded s3) r3 ∷ [])) ⌝ }
+// Question 5, of planes whose rows have so many samples.
+pub fn rows_ok(f: Four, rows: [usize; 4]) -> bool
+    ensures { λ r. ⌜ r ≡ allOf (take (f .count) (ofFour (λ k. leb (rowsNeeded (strideBy f k)) (getD rows k 0)))) ⌝ }
 {
-    let b0 = crate::one::rows_ok(s0, r0);
-    let b1 = crate::one::rows_ok(s1, r1);
-    let b2 = crate::one::rows_ok(s2, r2);
-    let b3 = crate::one::rows_ok(s3, r3);
-    all_ok(count, b0, b1, b2, b3)
+    let s = f.strides;
+    let b0 = ask::rows_ok(s[0], rows[0]);
+    let b1 = ask::rows_ok(s[1], rows[1]);
+    let b2 = ask::rows_ok(s[2], rows[2]);
+    let b3 = ask::rows_ok(s[3], rows[3]);
+    all_ok(f.count, b0, b1, b2, b3)
+}
+
+// The columns of blocks of a plane.
+fn column(stride: usize) -> usize
+    ensures { λ r. ⌜ (r ≡ stride / 8) × (r < 2 ^ 61) ⌝ }
+{
+    stride / 8
 }
 
 // The columns of blocks of all planes together.
-pub fn columns(count: usize, s0: usize, s1: usize, s2: usize, s3: usize) -> usize
-    ensures { λ r. ⌜ r ≡ sumOf (take count (s0 / 8 ∷ s1 / 8 ∷ s2 / 8 ∷ s3 / 8 ∷ [])) ⌝ }
+pub fn columns(f: Four) -> usize
+    ensures { λ r. ⌜ r ≡ sumOf (take (f .count) (ofFour (λ k. strideBy f k / 8))) ⌝ }
 {
-    if count == 0 {
+    let s = f.strides;
+    let n = f.count;
+    let c0 = column(s[0]);
+    let c1 = column(s[1]);
+    let c2 = column(s[2]);
+    let c3 = column(s[3]);
+    if n == 0 {
         return 0;
     }
-    if count == 1 {
-        return s0 / 8;
+    if n == 1 {
+        return c0;
     }
-    if count == 2 {
-        return s0 / 8 + s1 / 8;
+    if n == 2 {
+        return c0 + c1;
     }
-    if count == 3 {
-        return s0 / 8 + s1 / 8 + s2 / 8;
+    if n == 3 {
+        return c0 + c1 + c2;
     }
-    s0 / 8 + s1 / 8 + s2 / 8 + s3 / 8
+    c0 + c1 + c2 + c3
 }

@@ -1,7 +1,7 @@
-// The questions of a call, one by one and in their order, the sizes that a call asks for, and what the calls answer.
+// The questions of a call on planes or slices, in their order, the sizes that a call asks for, and what the calls answer.
+// Single questions are answered by crate ask.
 pub mod answers;
 pub mod four;
 pub mod of_call;
-pub mod one;
 pub mod order;
 pub mod sizes;

@@ -1,8 +1,12 @@
-// What the programs that replay the Rust's answers share (oracle/ANSWERS.md): numbers out of a record, counts, the report.
+// What the parts of the program replays share (oracle/ANSWERS.md): numbers out of a record, counts, the report.
 
 ghost use Prim.Native.Nat.{_<_};
 
-fn unsigned(b: u8) -> u16 {
+// A record's bytes, the longest's; zeros after a shorter one's end.
+pub type Record = [u8; 1120];
+
+// A byte as a number of two bytes.
+pub fn unsigned(b: u8) -> u16 {
     b as u16
 }
 
@@ -77,42 +81,63 @@ pub fn lane32(b: &[u8], at: usize) -> i32 {
     (scalar::sum16(lane(b, at + 2), 0) << 16) | low(number(b, at))
 }
 
-// Eight lanes of 16 bits.
-pub fn row(b: &[u8], at: usize) -> [i16; 8] {
-    let mut r = [0i16; 8];
-    if at < 60000 {
-        for k in 0..8 {
-            r[k] = lane(b, at + 2 * k);
-        }
+// Lane k of those from `at` on.
+fn lane_of(b: &[u8], at: usize, k: usize) -> i16 {
+    if 60000 < at {
+        return 0;
     }
-    r
+    if 2000 < k {
+        return 0;
+    }
+    lane(b, at + 2 * k)
 }
 
-// Four lanes of 32 bits.
-pub fn row32(b: &[u8], at: usize) -> [i32; 4] {
-    let mut r = [0i32; 4];
-    if at < 60000 {
-        for k in 0..4 {
-            r[k] = lane32(b, at + 4 * k);
-        }
+fn lane32_of(b: &[u8], at: usize, k: usize) -> i32 {
+    if 50000 < at {
+        return 0;
     }
-    r
+    if 2000 < k {
+        return 0;
+    }
+    lane32(b, at + 4 * k)
 }
 
-pub fn same(a: [i16; 8], b: [i16; 8]) -> bool {
-    for k in 0..8 {
-        if a[k] != b[k] {
+// As many lanes as there is room for, from `at` on.
+pub fn read_lanes(b: &[u8], at: usize, out: &mut [i16]) {
+    let mut k = 0;
+    while k < out.len() {
+        out[k] = lane_of(b, at, k);
+        k += 1;
+    }
+}
+
+pub fn read_lanes32(b: &[u8], at: usize, out: &mut [i32]) {
+    let mut k = 0;
+    while k < out.len() {
+        out[k] = lane32_of(b, at, k);
+        k += 1;
+    }
+}
+
+// Whether the record has these lanes from `at` on.
+pub fn has_lanes(b: &[u8], at: usize, lanes: &[i16]) -> bool {
+    let mut k = 0;
+    while k < lanes.len() {
+        if lane_of(b, at, k) != lanes[k] {
             return false;
         }
+        k += 1;
     }
     true
 }
 
-pub fn same32(a: [i32; 4], b: [i32; 4]) -> bool {
-    for k in 0..4 {
-        if a[k] != b[k] {
+pub fn has_lanes32(b: &[u8], at: usize, lanes: &[i32]) -> bool {
+    let mut k = 0;
+    while k < lanes.len() {
+        if lane32_of(b, at, k) != lanes[k] {
             return false;
         }
+        k += 1;
     }
     true
 }
@@ -203,22 +228,15 @@ fn sample_wanted(k: usize, fill: u16, end: usize, stored: &[u8]) -> u16 {
 }
 
 // A number for each of four planes.
-pub struct Four {
-    pub p0: usize,
-    pub p1: usize,
-    pub p2: usize,
-    pub p3: usize,
-}
-
-fn four_sizes(b: &[u8], at: usize) -> Four
+fn four_sizes(b: &[u8], at: usize) -> [usize; 4]
     requires { ⌜ at < 60000 ⌝ }
 {
-    Four {
-        p0: size(b, at),
-        p1: size(b, at + 2),
-        p2: size(b, at + 4),
-        p3: size(b, at + 6),
-    }
+    [
+        size(b, at),
+        size(b, at + 2),
+        size(b, at + 4),
+        size(b, at + 6),
+    ]
 }
 
 // The arguments of a call on planes: preset, shift, the plane's place or how many planes, where the streams begin;
@@ -229,9 +247,9 @@ pub struct Asked {
     pub which: usize,
     pub d: usize,
     pub a: usize,
-    pub strides: Four,
-    pub starts: Four,
-    pub counts: Four,
+    pub strides: [usize; 4],
+    pub starts: [usize; 4],
+    pub counts: [usize; 4],
 }
 
 pub fn call_of(b: &[u8]) -> Asked {
@@ -270,8 +288,10 @@ pub fn count(counts: &mut [u64; 2], equal: bool) {
     }
 }
 
-// Writes both counts.
-pub fn say(counts: &[u64; 2]) {
+// Writes a part's name and both counts.
+pub fn say(name: &[u8], counts: &[u64; 2]) {
+    io::write_all(1, name);
+    io::write_all(1, b": ");
     io::print_decimal(1, counts[0]);
     io::write_all(1, b" equal, ");
     io::print_decimal(1, counts[1]);

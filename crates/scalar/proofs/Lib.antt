@@ -1,4 +1,5 @@
 pub mod Laws
 pub mod Fill
 pub mod InRows
+pub mod Wrap
 pub mod Examples

@@ -1,5 +1,6 @@
 pub mod Scalar
 pub mod Tab
+pub mod Named
 pub mod cuts
 pub mod sums
 pub mod products

@@ -1,17 +1,15 @@
 -- Shown rows. Document 01, 'Frame': the slice's 16 rows out of the new picture if accepted, out of the held one if not.
 use mathlib.Core.Bool.{Bool, true, false, _&&_, cond}
 use mathlib.Core.List.{List, [], _∷_}
-use Prim.Native.Nat.{ℕ, zero, suc, _+_, _*_, _%_}
+use Prim.Native.Nat.{ℕ, _+_, _*_}
 use lib.Dec.{leb, ltb, eqb}
 use lib.ListN.{length, take, drop}
-use Rattle.ask.specs.Ask.{Answer, refused, accepted, Question, ask, asked}
-
--- question 4: "Stride a multiple of 8 from 8 to 7,680?"
-abbrev pub strideOk : ℕ → Bool
-strideOk s = eqb (s % 8) 0 && (leb 8 s && leb s 7680)
+use Rattle.ask.specs.Ask.{Answer, refused, accepted, Question, ask, asked, numberIn}
+use Rattle.ask.specs.Limits.{strideOk, rowsNeeded, slicesMax}
+use Rattle.ask.specs.Numbers.{noStride, noRows, noTurn}
 
 abbrev pub sliceSamples : ℕ → ℕ
-sliceSamples stride = 16 * stride
+sliceSamples stride = rowsNeeded stride
 
 -- the slice's verdict is the number that its reading call gave: 0 is accepted
 abbrev pub wasAccepted : ℕ → Bool
@@ -25,10 +23,14 @@ picked false new held = held
 abbrev pub upToEnd : ℕ → ℕ → ℕ
 upToEnd stride slice = (slice + 1) * sliceSamples stride
 
--- questions 4, 5, 14 ("shown rows: below 270"), for pictures of these lengths
+-- question 5, of both pictures, which have so many samples
+abbrev pub bothReach : ℕ → ℕ → ℕ → ℕ → Bool
+bothReach stride slice new held = leb (upToEnd stride slice) new && leb (upToEnd stride slice) held
+
+-- "Slice number below the count (shown rows: below 270)"
 unfoldable pub shownQuestions : ℕ → ℕ → ℕ → ℕ → List Question
 shownQuestions stride slice new held =
-    ask (strideOk stride) 4 ∷ ask (leb (upToEnd stride slice) new && leb (upToEnd stride slice) held) 5 ∷ ask (ltb slice 270) 14 ∷ []
+    ask (strideOk stride) noStride ∷ ask (bothReach stride slice new held) noRows ∷ ask (ltb slice slicesMax) noTurn ∷ []
 
 -- the slice's 16 rows
 abbrev pub sliceRows : ℕ → ℕ → List ℕ → List ℕ
@@ -43,6 +45,17 @@ shownOf stride slice verdict new held =
 abbrev pub shownPart : Answer (List ℕ) → List ℕ
 shownPart (refused n) = []
 shownPart (accepted l) = l
+
+-- what a call hands out: the number, and the rows
+pub record Shown : Type 0 where
+  pub number : ℕ
+  pub rows : List ℕ
+
+abbrev pub shownAs : ℕ → List ℕ → Shown
+shownAs n rows = record { number = n; rows = rows }
+
+abbrev pub handedOut : Answer (List ℕ) → Shown
+handedOut a = shownAs (numberIn a) (shownPart a)
 
 -- "a second call picks the time likewise"
 unfoldable pub timeOf : ℕ → ℕ → ℕ → ℕ

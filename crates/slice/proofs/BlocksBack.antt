@@ -6,13 +6,13 @@ use native.Mathlib.Nat.{add-zero, add-assoc}
 use native.Mathlib.Omega.{arith}
 use lib.IntN.{ℤ, pos, natAbs, _-ℤ_}
 use lib.ListN.{length, drop, length-append}
-use Rattle.calls.specs.Arguments.{Settings, Plane, PerStream, Buffers}
+use Rattle.calls.specs.Arguments.{Settings, Plane, PerStream, Buffers, lengthsOf}
 use Rattle.calls.specs.Streams.{dcOf, withDc, dcStream, acStream}
 use Rattle.calls.specs.ReadPlane.{BlockRead, PlaneRead, readPlane}
 use Rattle.calls.specs.Grid.{blocksOf}
 use Rattle.slice.specs.Plane.{coefficients}
 use Rattle.calls.specs.Questions.{together}
-use Rattle.slice.specs.Calls.{lengthsOf, ownStreams, PlanesRead, planesRead, planeThen, byPlane, readPlanes}
+use Rattle.slice.specs.Calls.{ownStreams, PlanesRead, planesRead, planeThen, byPlane, readPlanes}
 use Rattle.slice.specs.CallLists.{Shape, shape}
 use Rattle.slice.specs.Demand3.{BlockBack, PlaneBack, PlanesBack}
 use Rattle.calls.proofs.DcNear.{dc-near, no-difference}

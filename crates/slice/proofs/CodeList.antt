@@ -5,22 +5,22 @@ use mathlib.Core.List.{List, [], _∷_, _++_, append-assoc, append-nil}
 use Prim.Native.Nat.{ℕ, zero, suc, _+_, _*_, _-_, _≤_, _<_}
 use native.Mathlib.Nat.{add-zero, zero-add, add-assoc}
 use native.Mathlib.Omega.{arith}
-use lib.Dec.{T}
 use lib.ListN.{length, take, drop, length-append, length-take, length-drop, take-append-drop}
 use lib.Seq.{take-at, drop-at, length-take-le}
 use Rattle.bits.specs.Lay.{lay}
 use Rattle.bits.proofs.LayLaw.{lay-none, lay-length, lay-take, lay-drop, lay-lay}
 use Rattle.ask.specs.Ask.{firstNo}
-use Rattle.calls.specs.Arguments.{Settings, Plane, Call, settingsOf, planesOf, PerStream, Buffers}
+use Rattle.calls.specs.Arguments.{Settings, Plane, Call, settingsOf, planesOf, PerStream, Buffers, lengthsOf}
 use Rattle.calls.specs.Streams.{dcStream, acStream}
 use Rattle.slice.specs.Plane.{coefficients}
-use Rattle.calls.specs.Questions.{strideOk, each, together, roomForAll, codingQuestions}
-use Rattle.slice.specs.Calls.{lengthsOf, Coded, ownStreams, laidAt, codedBy, encode}
+use Rattle.calls.specs.Questions.{together}
+use Rattle.slice.specs.Calls.{Coded, ownStreams, laidAt, codedBy, encode}
 use Rattle.slice.specs.CallLists.{Answer, CodedAll, Book, emptyBook, Fed, bookAt, bookNumber, putBehind, bookBy, bookNext, bookAfter, bookAnswers}
 use Rattle.slice.specs.Demand3.{Written, fed, CodingHalf}
 use Rattle.slice.proofs.Law.{dc-fits, ac-fits}
 use Rattle.slice.proofs.Runs.{encodeAll}
-use Rattle.calls.proofs.Asked.{CodingYes, coding-yes}
+use Rattle.slice.proofs.Legal.{coding-legal}
+use Rattle.slice.specs.Room.{roomForAll, codingQuestions}
 
 -- ---- a row that lies in a buffer, or is none
 pub data Sits (l : List ℕ) (i : ℕ) (row : List ℕ) : Type 0 where
@@ -63,8 +63,8 @@ own c = ownStreams (settingsOf c) (planesOf c)
 pub room : (c : Call) (lengths at : PerStream) → firstNo (codingQuestions c lengths at) ≡ 0
     → (at .dc + length (own c .dcBytes) ≤ lengths .dc) × (at .ac + length (own c .acBytes) ≤ lengths .ac)
 room c lengths at e =
-    let y = coding-yes c lengths at e in
-    let r = own-fits (settingsOf c) (planesOf c) (y .preset-le) (y .shift-le) in
+    let y = coding-legal c lengths at e in
+    let r = own-fits (settingsOf c) (planesOf c) (y .legal .settings .preset-le) (y .legal .settings .shift-le) in
     (omega (arith, r .0, y .dc-room), omega (arith, r .1, y .ac-room))
 
 module _ (b : Buffers) (starts : PerStream) where

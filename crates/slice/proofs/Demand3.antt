@@ -4,29 +4,27 @@ use mathlib.Core.Bool.{Bool, true, false, _&&_}
 use mathlib.Core.List.{List, [], _∷_, _++_, map, append-assoc, append-nil}
 use Prim.Native.Nat.{ℕ, zero, suc, _+_, _*_, _/_, _^_, _≤_, _<_}
 use native.Mathlib.Omega.{arith}
-use lib.Dec.{T}
 use lib.ListN.{length, take, length-append}
 use lib.Seq.{length-take-le}
 use Rattle.bits.specs.Lay.{lay}
 use Rattle.bits.proofs.LayLaw.{lay-take}
-use Rattle.calls.specs.Arguments.{Settings, Plane, Call, settingsOf, planesOf, PerStream, Buffers}
+use Rattle.calls.specs.Arguments.{Settings, Plane, Call, settingsOf, planesOf, PerStream, Buffers, lengthsOf}
 use Rattle.slice.specs.Plane.{coefficients}
-use Rattle.calls.specs.Questions.{strideOk, each, together}
-use Rattle.slice.specs.Calls.{lengthsOf, ownStreams, Coded, encode, Decoded, decode}
+use Rattle.calls.specs.Questions.{together}
+use Rattle.calls.specs.Legal.{LegalSettings, LegalPlane, Every}
+use Rattle.slice.specs.Calls.{ownStreams, Coded, encode, Decoded, decode}
 use Rattle.slice.specs.CallLists.{CodedAll, DecodedAll, Book, emptyBook, Fed, bookAt, bookNumber, putBehind, bookBy, bookNext, bookAfter, bookAnswers, ifAccepted, AtThese, planesCoded, OneSetting, blocksRead, Follows}
 use Rattle.slice.specs.Demand3.{fed, book, planes, readFrom, CodingHalf, PlanesBack, ReadingHalf, Demand3}
 use Rattle.slice.proofs.Runs.{encodeAll, decodeAll, coded-so, read-so}
-use Rattle.calls.proofs.Asked.{CodingYes, coding-yes, and-l, and-r, stride-le}
+use Rattle.slice.proofs.Legal.{coding-legal}
 use Rattle.slice.proofs.CodeList.{room, with, from-empty, coding}
 use Rattle.slice.proofs.BlocksBack.{Fine, AllFine, fine-join}
 use Rattle.slice.proofs.ReadList.{own-append, Back, Lies, nothing, lies, list-read}
 
-fine-of : (σ : Settings) (ps : List Plane) → σ .preset ≤ 24 → σ .shift ≤ 15 → T (each (λ p. strideOk (p .stride)) ps) → AllFine σ ps
-fine-of σ [] a b t = tt
-fine-of σ (p ∷ ps) a b t = (
-  record { preset-le = a; shift-le = b; few = omega (arith, stride-le (p .stride) (and-l (strideOk (p .stride)) (each (λ p. strideOk (p .stride)) ps) t)) },
-  fine-of σ ps a b (and-r (strideOk (p .stride)) (each (λ p. strideOk (p .stride)) ps) t),
-)
+fine-of : (σ : Settings) (ps : List Plane) → LegalSettings σ → Every LegalPlane ps → AllFine σ ps
+fine-of σ [] s l = tt
+fine-of σ (p ∷ ps) s l =
+    (record { preset-le = s .preset-le; shift-le = s .shift-le; few = omega (arith, l .0 .stride-le) }, fine-of σ ps s (l .1))
 
 -- ---- the book's rows are the accepted planes' own streams joined in order
 join-by : (n : ℕ) (σ : Settings) (f : Fed) (k : Book) (c : Call) (cs : List Call) → AtThese σ n c
@@ -55,8 +53,8 @@ fine-by : (n : ℕ) (σ : Settings) (f : Fed) (k : Book) (c : Call) → bookNumb
 unfolding bookNumber
 fine-by (suc n) σ f k c e s = tt
 fine-by zero σ f k c e s =
-    let y = coding-yes c (f .lengths) (bookAt f k) e in
-    subst (λ (s′ : Settings). AllFine s′ (planesOf c)) s (fine-of (settingsOf c) (planesOf c) (y .preset-le) (y .shift-le) (y .strides))
+    let y = coding-legal c (f .lengths) (bookAt f k) e .legal in
+    subst (λ (s′ : Settings). AllFine s′ (planesOf c)) s (fine-of (settingsOf c) (planesOf c) (y .settings) (y .planes))
 
 all-fine : (σ : Settings) (f : Fed) (k : Book) (cs : List Call) → OneSetting σ f k cs → AllFine σ (planesCoded f k cs)
 unfolding planesCoded OneSetting

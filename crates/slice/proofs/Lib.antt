@@ -1,4 +1,6 @@
 pub mod Law
+pub mod Legal
+pub mod Orders
 pub mod Runs
 pub mod CodeList
 pub mod BlocksBack
@@ -7,3 +9,4 @@ pub mod Demand3
 pub mod RowsOnly
 pub mod Corner
 pub mod Painting
+pub mod examples

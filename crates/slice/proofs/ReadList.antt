@@ -7,17 +7,18 @@ use native.Mathlib.Omega.{arith}
 use lib.IntN.{ℤ}
 use lib.ListN.{length, take, drop, length-append, length-map, take-append-drop}
 use lib.Seq.{take-append-add}
-use Rattle.calls.specs.Arguments.{Settings, Plane, Call, settingsOf, planesLent, planesOf, PerStream, Buffers}
+use Rattle.calls.specs.Arguments.{Settings, Plane, Call, settingsOf, planesLent, planesOf, PerStream, Buffers, lengthsOf}
 use Rattle.calls.specs.Streams.{dcStream, acStream}
 use Rattle.calls.specs.ReadPlane.{BlockRead}
 use Rattle.slice.specs.Plane.{coefficients}
-use Rattle.calls.specs.Questions.{together, badCode}
-use Rattle.slice.specs.Calls.{lengthsOf, ownStreams, PlanesRead, planesRead, readPlanes, Decoded, rowsOf, rowsMade, decode}
+use Rattle.calls.specs.Questions.{together}
+use Rattle.slice.specs.Calls.{ownStreams, PlanesRead, planesRead, readPlanes, Decoded, rowsOf, rowsMade, decode}
 use Rattle.slice.specs.CallLists.{DecodedAll, numberBefore8, Shape, shape, FollowsBy, Follows, blocksIn, blocksRead}
 use Rattle.slice.specs.Demand3.{PlanesBack, Answered, refused, accepted, AllAnswered}
 use Rattle.slice.proofs.Runs.{decodeAll}
-use Rattle.calls.proofs.Asked.{not-bad}
+use Rattle.calls.proofs.Legal.{not-bad}
 use Rattle.slice.proofs.BlocksBack.{AllFine, fine-append, ManyIs, none-read, many-back, planes-append, planes-length, same-shapes, regroup}
+use Rattle.ask.specs.Numbers.{noCode}
 
 map-join : {A B : Type 0} (f : A → B) (xs ys : List A) → map f (xs ++ ys) ≡ map f xs ++ map f ys
 map-join f [] ys = refl

@@ -4,10 +4,11 @@ use mathlib.Core.List.{List, [], _∷_, _++_, map}
 use Prim.Native.Nat.{ℕ, zero, suc, _+_}
 use lib.ListN.{length, take, drop}
 use Rattle.ask.specs.Ask.{firstNo}
-use Rattle.calls.specs.Arguments.{Settings, Plane, Call, settingsOf, planesOf, PerStream, Buffers}
+use Rattle.calls.specs.Arguments.{Settings, Plane, Call, settingsOf, planesOf, PerStream, Buffers, lengthsOf}
 use Rattle.calls.specs.ReadPlane.{BlockRead}
-use Rattle.calls.specs.Questions.{codingQuestions, readingQuestions, together}
-use Rattle.slice.specs.Calls.{lengthsOf, Coded, ownStreams, PlanesRead, badPlanes, planesRead, readPlanes, Decoded}
+use Rattle.calls.specs.Questions.{readingQuestions, together}
+use Rattle.slice.specs.Calls.{Coded, ownStreams, PlanesRead, badPlanes, planesRead, readPlanes, Decoded}
+use Rattle.slice.specs.Room.{codingQuestions}
 
 -- what a call hands back besides lent memory
 pub record Answer : Type 0 where

@@ -2,18 +2,16 @@
 -- "A refusal yields the number, the start positions; lent memory is unchanged." The number 0 says that a call was accepted.
 use mathlib.Core.List.{List, [], _∷_, _++_}
 use Prim.Native.Nat.{ℕ, zero, suc}
-use lib.ListN.{length}
 use Rattle.bits.specs.Lay.{lay}
 use Rattle.ask.specs.Ask.{firstNo}
-use Rattle.calls.specs.Arguments.{Settings, Rows, Plane, Call, onePlane, oneSlice, settingsOf, planesLent, planesOf, PerStream, Buffers}
+use Rattle.calls.specs.Arguments.{Settings, Rows, Plane, Call, onePlane, oneSlice, settingsOf, planesLent, planesOf, PerStream, Buffers, lengthsOf}
 use Rattle.calls.specs.Streams.{dcStream, acStream}
 use Rattle.calls.specs.ReadPlane.{BlockRead, PlaneRead, badPlane, planeRead, readPlane}
 use Rattle.calls.specs.Grid.{blocksOf}
 use Rattle.slice.specs.Plane.{coefficients, reconstruct}
-use Rattle.calls.specs.Questions.{codingQuestions, readingQuestions, badCode, together}
-
-abbrev pub lengthsOf : Buffers → PerStream
-lengthsOf b = record { dc = length (b .dcBytes); ac = length (b .acBytes) }
+use Rattle.calls.specs.Questions.{readingQuestions, together}
+use Rattle.slice.specs.Room.{codingQuestions}
+use Rattle.ask.specs.Numbers.{noCode}
 
 -- ---- coding
 
@@ -87,7 +85,7 @@ rowsMade σ (p ∷ ps) (b ∷ bs) = reconstruct σ p b ∷ rowsMade σ ps bs
 
 abbrev pub decodedBy : ℕ → Call → PerStream → PlanesRead → Decoded
 decodedBy (suc n) c at r = record { number = suc n; at = at; rows = rowsOf (planesLent c) }
-decodedBy zero c at badPlanes = record { number = badCode; at = at; rows = rowsOf (planesLent c) }
+decodedBy zero c at badPlanes = record { number = noCode; at = at; rows = rowsOf (planesLent c) }
 decodedBy zero c at (planesRead bs end) = record { number = 0; at = end; rows = rowsMade (settingsOf c) (planesLent c) bs }
 
 unfoldable pub decode : Call → Buffers → PerStream → Decoded

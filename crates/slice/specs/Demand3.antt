@@ -4,13 +4,14 @@ use mathlib.Core.List.{List, [], _∷_, _++_, map}
 use Prim.Native.Nat.{ℕ, zero, suc, _+_, _/_, _^_, _≤_}
 use lib.IntN.{ℤ, natAbs, _-ℤ_}
 use lib.ListN.{length, take, drop}
-use Rattle.calls.specs.Arguments.{Settings, Plane, Call, settingsOf, planesLent, planesOf, PerStream, Buffers}
+use Rattle.calls.specs.Arguments.{Settings, Plane, Call, settingsOf, planesLent, planesOf, PerStream, Buffers, lengthsOf}
 use Rattle.calls.specs.Streams.{dcOf}
 use Rattle.calls.specs.ReadPlane.{BlockRead}
 use Rattle.slice.specs.Plane.{coefficients}
-use Rattle.calls.specs.Questions.{together, badCode}
-use Rattle.slice.specs.Calls.{lengthsOf, Coded, ownStreams, planesRead, readPlanes, Decoded, rowsOf, rowsMade}
+use Rattle.calls.specs.Questions.{together}
+use Rattle.slice.specs.Calls.{Coded, ownStreams, planesRead, readPlanes, Decoded, rowsOf, rowsMade}
 use Rattle.slice.specs.CallLists.{CodedAll, Coding, DecodedAll, Reading, Fed, Book, emptyBook, bookAt, bookAfter, bookAnswers, planesCoded, putBehind, OneSetting, numberBefore8, Follows, blocksRead}
+use Rattle.ask.specs.Numbers.{noCode}
 
 -- ---- the coding half
 
@@ -63,7 +64,7 @@ PlanesBack shift (q ∷ qs) (b ∷ bs) = PlaneBack shift q b × PlanesBack shift
 -- one reading call: refused with a number from before question 8, its positions and rows as they were; or its rows made from the
 -- coefficients that it read
 pub data Answered (c : Call) (b : Buffers) (at : PerStream) : Decoded → Type 0 where
-  refused : (n : ℕ) → numberBefore8 c b at ≡ suc n → (suc n ≡ badCode → ⊥)
+  refused : (n : ℕ) → numberBefore8 c b at ≡ suc n → (suc n ≡ noCode → ⊥)
       → Answered c b at (record { number = suc n; at = at; rows = rowsOf (planesLent c) })
   accepted : (blocks : List (List BlockRead)) (end : PerStream) → numberBefore8 c b at ≡ 0
       → readPlanes (settingsOf c .shift) (planesOf c) b at ≡ planesRead blocks end

@@ -1,4 +1,5 @@
 pub mod Plane
+pub mod Room
 pub mod Calls
 pub mod CallLists
 pub mod Demand3

@@ -1,6 +1,1 @@
-// Entropy coding of one plane within one 16-line slice (slice.rs): definitions of coefficients, calls and lists of calls, and their laws.
-pub mod examples;
-
-pub fn rows() -> usize {
-    16
-}
+// Planes and slices as whole calls (slice.rs): coefficients, calls, lists of calls and demand 3. Definitions and their laws only.

@@ -8,7 +8,7 @@ use lib.Count.{leadingZeros}
 use lib.Dec.{T, leb, ltb, leb→le, ltb→lt}
 use Rattle.tables.specs.Divisor.{baseMatrix, qualityFactors, divisor}
 use Rattle.tables.specs.Reciprocal.{shiftOf, correctionOf, reciprocalOf, scaleOf, twoHigh, rounded}
-use Rattle.tables.specs.Entries.{numberOf, numberAt, correctionAt, reciprocalAt, scaleAt}
+use Rattle.tables.specs.Entries.{numberFor, numberAt, correctionAt, reciprocalAt, scaleAt}
 use Rattle.tables.proofs.Every.{both, both-left, both-right, everyFrom}
 use Rattle.tables.proofs.Rule.{good, rounds}
 use Rattle.tables.proofs.Sizes.{each, at-each, divisor-low, divisor-last}
@@ -17,7 +17,7 @@ goodAt : ℕ → ℕ → Bool
 goodAt p y = both (good (divisor p y) (correctionAt p y) (reciprocalAt p y) (scaleAt p y)) (ltb (correctionAt p y) 32768)
 
 all-good : T (everyFrom (each goodAt) 0 1600)
-unfolding goodAt divisor baseMatrix qualityFactors numberAt numberOf correctionOf reciprocalOf scaleOf shiftOf leadingZeros
+unfolding goodAt divisor baseMatrix qualityFactors numberAt numberFor correctionOf reciprocalOf scaleOf shiftOf leadingZeros
 all-good = tt
 
 -- "For each entry and each x from 0 to 32,768, the two high multiplies yield (x + divisor/2) / divisor"

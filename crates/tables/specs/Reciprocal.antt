@@ -31,12 +31,12 @@ unfoldable pub scaleOf : ℕ → ℕ
 scaleOf d = pickℕ (eqb (remainderOf d) 0) (2 ^ (33 - shiftOf d)) (2 ^ (32 - shiftOf d))
 
 -- the high 16 bits of a product of two numbers of 16 bits
-abbrev pub high : ℕ → ℕ → ℕ
-high a b = a * b / 65536
+abbrev pub highHalf : ℕ → ℕ → ℕ
+highHalf a b = a * b / 65536
 
 -- "the two high multiplies" of x with a correction, a reciprocal and a scale
 abbrev pub twoHigh : ℕ → ℕ → ℕ → ℕ → ℕ
-twoHigh c r s x = high (high (x + c) r) s
+twoHigh c r s x = highHalf (highHalf (x + c) r) s
 
 -- "(x + divisor/2) / divisor, both divisions of whole numbers rounding down"
 abbrev pub rounded : ℕ → ℕ → ℕ

@@ -3,15 +3,14 @@ use mathlib.Core.List.{List, [], _∷_}
 use Prim.Native.Nat.{ℕ}
 use contract.Lifetimes.{Lfts}
 use denote.Ref.{RefT, now}
-use Rattle.calls.specs.Arguments.{eight, ten, Call, onePlane, PerStream, Buffers}
+use Rattle.calls.specs.Arguments.{eight, ten, Call, onePlane, PerStream, Buffers, settings, plane}
 use Rattle.slice.specs.Calls.{Decoded}
-use Rattle.encplane.specs.Coding.{settings, plane}
 use Rattle.outs.specs.plane.Planes.{decodedAs}
 use Rattle.vmx.proofs.Steps.{Streams, bytesIn, placesIn, FourRows, sliceOf}
-use Rattle.vmx.proofs.reading.vmx_decode_plane8.Reads as decode-plane8
-use Rattle.vmx.proofs.reading.vmx_decode_plane10.Reads as decode-plane10
-use Rattle.vmx.proofs.reading.vmx_decode_slice8.Reads as decode-slice8
-use Rattle.vmx.proofs.reading.vmx_decode_slice10.Reads as decode-slice10
+use Rattle.vmx.proofs.eight.vmx_decode_plane8.Reads as decode-plane8
+use Rattle.vmx.proofs.ten.vmx_decode_plane10.Reads as decode-plane10
+use Rattle.vmx.proofs.eight.vmx_decode_slice8.Reads as decode-slice8
+use Rattle.vmx.proofs.ten.vmx_decode_slice10.Reads as decode-slice10
 
 -- ---- the contracts, in the order of their arguments: lifetimes, arguments, what is returned, the lent rows and streams at exit
 abbrev pub DecodePlane8 : (κs : Lfts 5) (p : RefT (List ℕ)) (stride place preset shift : ℕ) (s : Streams) (r : ℕ) (p' : RefT (List ℕ)) (s' : Streams) → Type 0

@@ -7,13 +7,12 @@ use lib.ListN.{length}
 use contract.Lifetimes.{Lfts}
 use denote.Ref.{RefT}
 use Rattle.ask.specs.Ask.{firstNo}
-use Rattle.calls.specs.Arguments.{Depth, eight, ten, Settings, Rows, Plane, Call, onePlane, oneSlice, settingsOf, planesLent, planesOf, PerStream, Buffers}
+use Rattle.calls.specs.Arguments.{Depth, eight, ten, Settings, Rows, Plane, Call, onePlane, oneSlice, settingsOf, planesLent, planesOf, PerStream, Buffers, lengthsOf, settings}
 use Rattle.calls.specs.ReadPlane.{BlockRead}
 use Rattle.calls.specs.Questions.{readingQuestions}
-use Rattle.slice.specs.Calls.{lengthsOf, encode, PlanesRead, badPlanes, planesRead, readPlanes, rowsOf, rowsMade, Decoded, decodedBy, decode}
+use Rattle.slice.specs.Calls.{encode, PlanesRead, badPlanes, planesRead, readPlanes, rowsOf, rowsMade, Decoded, decodedBy, decode}
 use Rattle.slice.specs.CallLists.{Coding, codedNone, codedThen, Reading, readNone, readThen}
 use Rattle.slice.proofs.Runs.{encodeAll, decodeAll}
-use Rattle.encplane.specs.Coding.{settings}
 use Rattle.vmx.proofs.Steps.{Streams, FourRows, Codes, codes-plane8, codes-plane10, codes-slice8, codes-slice10}
 use Rattle.vmx.proofs.ReadSteps.{Reads, reads-plane8, reads-plane10, reads-slice8, reads-slice10}
 

@@ -4,16 +4,13 @@ use mathlib.Core.List.{List}
 use Prim.Native.Nat.{ℕ}
 use contract.Lifetimes.{Lfts}
 use denote.Ref.{RefT, now}
-use Rattle.calls.specs.Arguments.{Settings, eight, ten, Call, onePlane, oneSlice, PerStream, Buffers}
+use Rattle.calls.specs.Arguments.{Settings, eight, ten, Call, onePlane, oneSlice, PerStream, Buffers, settings, plane, rows, buffers, positions}
 use Rattle.slice.specs.Calls.{Coded}
-use Rattle.encplane.specs.Coding.{settings, plane}
-use Rattle.encoder.specs.by_slice.SliceCoding.{rows}
-use Rattle.questions.specs.answers.Streams.{buffers, positions}
 use Rattle.outs.specs.plane.Planes.{codedAs}
-use Rattle.vmx.proofs.coding.vmx_encode_plane8.Reads as encode-plane8
-use Rattle.vmx.proofs.coding.vmx_encode_plane10.Reads as encode-plane10
-use Rattle.vmx.proofs.coding.vmx_encode_slice8.Reads as encode-slice8
-use Rattle.vmx.proofs.coding.vmx_encode_slice10.Reads as encode-slice10
+use Rattle.vmx.proofs.eight.vmx_encode_plane8.Reads as encode-plane8
+use Rattle.vmx.proofs.ten.vmx_encode_plane10.Reads as encode-plane10
+use Rattle.vmx.proofs.eight.vmx_encode_slice8.Reads as encode-slice8
+use Rattle.vmx.proofs.ten.vmx_encode_slice10.Reads as encode-slice10
 
 -- the two buffers and the two positions, as they are lent
 pub record Streams : Type 0 where

@@ -5,6 +5,7 @@
 ghost use mathlib.Core.Path.{_≡_};
 ghost use Rattle.calls.specs.Previews.{planeSize, sliceSize};
 ghost use Rattle.outs.specs.plane.Planes.{sizedAs};
+use calls::Four;
 
 // Of one plane.
 #[no_mangle]
@@ -28,6 +29,10 @@ pub extern "C" fn vmx_slice_size(
 ) -> u32
     ensures { λ r. ⌜ sizedAs r (now («dc_len» .exit)) (now («ac_len» .exit)) ≡ sliceSize count stride0 stride1 stride2 stride3 ⌝ }
 {
-    let slice = questions::sizes::slice_size(count, stride0, stride1, stride2, stride3);
+    let f = Four {
+        count,
+        strides: [stride0, stride1, stride2, stride3],
+    };
+    let slice = questions::sizes::slice_size(f);
     outs::plane::size_out(slice, dc_len, ac_len)
 }

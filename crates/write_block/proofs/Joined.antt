@@ -9,8 +9,9 @@ use lib.ListN.{length, getD}
 use Rattle.paint.specs.Paint.{storeBlock, sampleAt}
 use Rattle.paint.specs.Samples.{flatSample}
 use Rattle.paint.proofs.Pixels.{store-ext, flat-block}
-use Rattle.quant.specs.Quantise.{coefficient, scanOf, naturalOf, dequantiseOf}
-use Rattle.quant.proofs.Blocks.{scan-first, natural-scan}
+use Rattle.tables.specs.Divisor.{divisorsOf}
+use Rattle.quant.specs.Quantise.{coefficient, scanOf, naturalOf, dequantShift, dequantiseWith, dequantiseOf}
+use Rattle.quant.proofs.Blocks.{scan-first, natural-scan, dequantise-with}
 use Rattle.idct.specs.Inverse.{inverseOf}
 use Rattle.idct.proofs.Bounds.{sample-at}
 use Rattle.dct.specs.Decode.{blockSample, numberSample}
@@ -24,6 +25,14 @@ use Rattle.write_block.specs.Block.{natural, BlockPainted}
 first : (l : List ℤ) → coefficient l 0 ≡ dcOf l
 first [] = refl
 first (c ∷ cs) = refl
+
+-- a block's numbers at the depth b by the divisors of a preset
+pub preset-law : (b : Bool) (preset : ℕ) (nat : List ℤ) {deep : Bool} {q : List ℕ} {p : List ℤ} → deep ≡ b → q ≡ divisorsOf preset
+    → p ≡ inverseOf deep (pos 0) (dequantiseWith (dequantShift deep) q nat) → p ≡ inverseOf b (pos 0) (dequantiseOf b preset nat)
+preset-law b preset nat {q} d e f =
+    f
+    ∙ ap (λ (x : Bool). inverseOf x (pos 0) (dequantiseWith (dequantShift x) q nat)) d
+    ∙ ap (inverseOf b (pos 0)) (dequantise-with (dequantShift b) preset q nat e)
 
 module _ (stride preset : ℕ) (v : ℤ) (nat : List ℤ) (l : List ℕ) {y : List ℕ} where
   pub flat : {dc : ℤ} → dc ≡ coefficient nat 0 → y ≡ storeBlock stride (λ i. flatSample v dc) l → BlockPainted eight stride preset v (natural false nat) l y

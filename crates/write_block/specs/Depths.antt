@@ -5,6 +5,7 @@ use mathlib.Core.List.{List, _++_}
 use Prim.Native.Nat.{ℕ, _-_}
 use lib.IntN.{ℤ}
 use lib.ListN.{length, take, drop}
+use Rattle.tables.specs.Divisor.{divisorsOf}
 use Rattle.paint.specs.Paint.{storeBlock, sampleAt}
 use Rattle.calls.specs.Arguments.{Depth, eight, ten}
 use Rattle.calls.specs.ReadPlane.{BlockRead}
@@ -16,12 +17,12 @@ depthOf false = eight
 depthOf true = ten
 
 -- of the rows lent at both depths, those of one
-abbrev pub rowsOf : Bool → List ℕ → List ℕ → List ℕ
-rowsOf false rows8 rows16 = rows8
-rowsOf true rows8 rows16 = rows16
+abbrev pub depthRows : Bool → List ℕ → List ℕ → List ℕ
+depthRows false rows8 rows16 = rows8
+depthRows true rows8 rows16 = rows16
 
--- the block b is painted into the rows at the corner c, whatever place has the level v
-abbrev pub PaintedAt : Depth → ℕ → ℕ → ℕ → ℤ → BlockRead → List ℕ → List ℕ → Type 0
-PaintedAt depth c stride preset v b rows rows' =
-    (place : ℕ) → v ≡ level depth place
+-- the block b is painted into the rows at the corner c, whatever preset has the divisors q and whatever place the level v
+abbrev pub PaintedAt : Depth → ℕ → ℕ → List ℕ → ℤ → BlockRead → List ℕ → List ℕ → Type 0
+PaintedAt depth c stride q v b rows rows' =
+    (preset place : ℕ) → q ≡ divisorsOf preset → v ≡ level depth place
     → rows' ≡ take c rows ++ (storeBlock stride (sampleAt (blockSamples depth preset place b)) (take (length rows - c) (drop c rows)) ++ drop (length rows - c) (drop c rows))

@@ -1,13 +1,13 @@
-// The painters of one block (write_block of slice.rs): each receives the rows from the block's corner on.
-// The divisors are tables::decode_numbers(preset)'s: a caller makes them once for a plane.
+// One block painted into its plane (write_block of slice.rs). paint_at is given the whole rows and the block's corner, and lends the
+// block writers of dct::inverse (store8, store16, broadcast_dc8) the rows from that corner on.
+// The divisors are those of tables::decode_numbers: a caller makes them once for a plane.
 ghost use mathlib.Core.Path.{_≡_};
 ghost use mathlib.Core.Bool.{not};
 ghost use Prim.Native.Nat.{_+_, _*_, _≤_, _<_};
 ghost use lib.ListN.{length};
-ghost use Rattle.tables.specs.Divisor.{divisorsOf};
 ghost use Rattle.calls.specs.Grid.{level};
 ghost use Rattle.write_block.specs.Block.{natural};
-ghost use Rattle.write_block.specs.Depths.{depthOf, rowsOf, PaintedAt};
+ghost use Rattle.write_block.specs.Depths.{depthOf, depthRows, PaintedAt};
 
 // The level of a plane.
 pub fn level_of(deep: bool, place: usize) -> i16
@@ -30,15 +30,14 @@ pub fn paint_at(
     stride: usize,
     nat: [i16; 64],
     has_ac: bool,
-    preset: usize,
     q: &[u16; 64],
     v: i16,
 )
-    requires { ⌜ (8 ≤ stride) × (stride ≤ 7680) × (c + (7 * stride + 8) ≤ length (rowsOf deep (now rows8) (now rows16))) × (c < 200000) × (preset < 25) × (now q ≡ divisorsOf preset) ⌝ }
-    ensures { λ _. ⌜ PaintedAt (depthOf deep) c stride preset v (natural «has_ac» nat) (rowsOf deep (now (rows8 .entry)) (now (rows16 .entry))) (rowsOf deep (now (rows8 .exit)) (now (rows16 .exit))) × (rowsOf (not deep) (now (rows8 .exit)) (now (rows16 .exit)) ≡ rowsOf (not deep) (now (rows8 .entry)) (now (rows16 .entry))) ⌝ }
+    requires { ⌜ (8 ≤ stride) × (stride ≤ 7680) × (c + (7 * stride + 8) ≤ length (depthRows deep (now rows8) (now rows16))) × (c < 200000) ⌝ }
+    ensures { λ _. ⌜ PaintedAt (depthOf deep) c stride (now (q .entry)) v (natural «has_ac» nat) (depthRows deep (now (rows8 .entry)) (now (rows16 .entry))) (depthRows deep (now (rows8 .exit)) (now (rows16 .exit))) × (depthRows (not deep) (now (rows8 .exit)) (now (rows16 .exit)) ≡ depthRows (not deep) (now (rows8 .entry)) (now (rows16 .entry))) ⌝ }
 {
     if deep || has_ac {
-        let p = dct::inverse::idct_core(nat, preset, q, deep);
+        let p = dct::inverse::idct_core(nat, q, deep);
         if deep {
             dct::inverse::store16(&mut rows16[c..], stride, p, v);
         } else {

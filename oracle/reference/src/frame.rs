@@ -4,6 +4,7 @@
 use crate::Error;
 
 #[derive(Clone, Copy, PartialEq, Eq)]
+#[allow(dead_code, reason = "some are only matched on by the published files")]
 pub enum PixelFormat {
     Uyvy,
     Yuy2,

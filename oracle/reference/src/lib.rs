@@ -2,8 +2,6 @@
 //! program can call. `build.rs` copies its files; this file and `frame.rs`
 //! stand in for the two that were not published, and `api` is the way in.
 
-#![allow(dead_code)]
-
 #[cfg(published)]
 mod frame;
 #[cfg(published)]

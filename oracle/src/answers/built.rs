@@ -172,7 +172,8 @@ fn answers(c: &Calls, pool: &[u8]) -> (Vec<u32>, Vec<u8>) {
     let (mut dc, mut ac): (Vec<Vec<u8>>, Vec<Vec<u8>>) = (vec![], vec![]);
     // What `write` makes of the streams so far: the rest of its frame, of empty streams, is cut off.
     let frame = |dc: &[Vec<u8>], ac: &[Vec<u8>]| {
-        let padded = |s: &[Vec<u8>]| -> Vec<Vec<u8>> { (0..n).map(|k| s.get(k).cloned().unwrap_or_default()).collect() };
+        let padded =
+            |s: &[Vec<u8>]| -> Vec<Vec<u8>> { (0..n).map(|k| s.get(k).cloned().unwrap_or_default()).collect() };
         let mut f = write(&l, c.interlaced, c.quality as i32, c.shift.unwrap_or(0), &padded(dc), &padded(ac));
         f.truncate(f.len() - 4 * (2 * n - dc.len() - ac.len()));
         f

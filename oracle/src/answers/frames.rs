@@ -13,7 +13,8 @@ pub fn list(rng: &mut Rng) -> (Vec<u8>, usize) {
         let l = Layout::new(width, height).unwrap();
         for shift in [0, 3] {
             for with_ac in [true, false] {
-                let streams = |n: usize| -> Vec<Vec<u8>> { (0..l.slices()).map(|i| vec![i as u8; (i + n) % 4]).collect() };
+                let streams =
+                    |n: usize| -> Vec<Vec<u8>> { (0..l.slices()).map(|i| vec![i as u8; (i + n) % 4]).collect() };
                 let ac = if with_ac { streams(2) } else { vec![] };
                 let frame = write(&l, true, 80, shift, &streams(1), &ac);
                 changed(&mut out, rng, width, height, &frame);
@@ -29,7 +30,9 @@ pub fn list(rng: &mut Rng) -> (Vec<u8>, usize) {
         }
     }
     // Few bytes, in heights that are interlaced and in sizes that are refused.
-    for (width, height) in [(16, 480), (16, 576), (16, 1080), (16, 720), (17, 16), (14, 16), (16, 15), (7682, 16), (16, 4321)] {
+    for (width, height) in
+        [(16, 480), (16, 576), (16, 1080), (16, 720), (17, 16), (14, 16), (16, 15), (7682, 16), (16, 4321)]
+    {
         for frame in [&[][..], &[0], &[1, 80], &[2, 80, 1], &[3, 4, 1, 80, 1], &[0, 80, 30, 0, 0, 0, 0]] {
             put(&mut out, width, height, frame, false, 0);
         }
@@ -96,12 +99,11 @@ fn put(out: &mut Vec<u8>, width: usize, height: usize, frame: &[u8], ac: bool, s
     let read = Layout::new(width, height).and_then(|l| parse(&l, frame)).map_err(number);
     let header = match &read {
         Err(x) => [*x as u8, 0, 0, 0, 0, 0],
-        Ok(c) => {
-            [0, c.interlaced as u8, c.quality as u8, c.dc_shift as u8, c.header_len as u8, !c.ac.is_empty() as u8]
-        }
+        Ok(c) => [0, c.interlaced as u8, c.quality as u8, c.dc_shift as u8, c.header_len as u8, !c.ac.is_empty() as u8],
     };
     // A slice that is not there, and AC where a frame has none, is refusal 14.
-    let place = read.and_then(|c| if ac { c.ac.get(slice).copied().ok_or(14) } else { c.dc.get(slice).copied().ok_or(14) });
+    let place =
+        read.and_then(|c| if ac { c.ac.get(slice).copied().ok_or(14) } else { c.dc.get(slice).copied().ok_or(14) });
     let view = match place {
         Err(x) => [x as u8, 0, 0],
         Ok((at, n)) => [0, at as u8, n as u8],

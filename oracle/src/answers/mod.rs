@@ -1,4 +1,4 @@
-//! Writes the stored answers of the Rust that the programs `replay_*` compare
+//! Writes the stored answers of the Rust that the program `replays` compares
 //! ours with, where no Rust is at hand. ANSWERS.md describes the records.
 
 mod bits;
@@ -19,32 +19,41 @@ use std::process::ExitCode;
 /// The seed of the stored answers.
 const SEED: u64 = 1;
 
+/// A part's name, and its records with their count.
 type List = (&'static str, fn(&mut Rng) -> (Vec<u8>, usize));
 
+/// In the program's order.
 const LISTS: [List; 8] = [
-    ("lanes", lanes::list),
-    ("tables", tables::list),
     ("bits", bits::list),
+    ("built", built::list),
     ("dct", dct::list),
     ("frames", frames::list),
-    ("built", built::list),
+    ("lanes", lanes::list),
     ("planes", planes::list),
     ("reads", reads::list),
+    ("tables", tables::list),
 ];
 
-/// Writes crates/replay_NAME/stdin and stdout for each list.
+/// Writes each list to crates/replays/data, and crates/replays/stdout.
 pub fn run() -> ExitCode {
-    let crates = PathBuf::from(env!("CARGO_MANIFEST_DIR")).join("../crates");
+    let replays = PathBuf::from(env!("CARGO_MANIFEST_DIR")).join("../crates/replays");
+    let mut stdout = String::new();
     for (name, list) in LISTS {
         let (bytes, count) = list(&mut Rng::new(SEED));
-        let folder = crates.join(format!("replay_{name}"));
-        let wrote = std::fs::write(folder.join("stdin"), &bytes)
-            .and_then(|()| std::fs::write(folder.join("stdout"), format!("{count} equal, 0 different\n")));
-        if let Err(e) = wrote {
-            eprintln!("{}: {e}", folder.display());
+        if !wrote(replays.join("data").join(name), &bytes) {
             return ExitCode::FAILURE;
         }
-        println!("replay_{name}: {count} records, {} bytes", bytes.len());
+        println!("{name}: {count} records, {} bytes", bytes.len());
+        stdout += &format!("{name}: {count} equal, 0 different\n");
     }
-    ExitCode::SUCCESS
+    if wrote(replays.join("stdout"), stdout.as_bytes()) {
+        ExitCode::SUCCESS
+    } else {
+        ExitCode::FAILURE
+    }
+}
+
+/// Writes a file; where that fails, says why.
+fn wrote(file: PathBuf, bytes: &[u8]) -> bool {
+    std::fs::write(&file, bytes).inspect_err(|e| eprintln!("{}: {e}", file.display())).is_ok()
 }

@@ -69,7 +69,8 @@ impl List {
         } else {
             let planes: Vec<_> = (0..c.call.place).map(|k| plane(k, k)).collect();
             let number = self.rust.code_slice(c.call.settings, &planes, &mut after);
-            let (dc, ac) = (written(&after.dc, before.dc_at, after.dc_at), written(&after.ac, before.ac_at, after.ac_at));
+            let (dc, ac) =
+                (written(&after.dc, before.dc_at, after.dc_at), written(&after.ac, before.ac_at, after.ac_at));
             assert!(number > 0 || self.rust.same_slice(c.call.settings, &planes, dc, ac));
             number
         };
@@ -166,7 +167,8 @@ fn one<T: Made>(l: &mut List, rng: &mut Rng, preset: usize) {
 }
 
 /// Strides of slices: at most four columns of blocks.
-const STRIDES: [&[usize]; 8] = [&[8], &[8, 8], &[16, 8], &[16, 16], &[8, 8, 8], &[16, 8, 8], &[8, 16, 8], &[8, 8, 8, 8]];
+const STRIDES: [&[usize]; 8] =
+    [&[8], &[8, 8], &[16, 8], &[16, 16], &[8, 8, 8], &[16, 8, 8], &[8, 16, 8], &[8, 8, 8, 8]];
 
 /// A slice's call from starts.
 fn slice<T: Made>(rng: &mut Rng, settings: Settings, strides: &[usize], starts: (usize, usize)) -> Coding<T> {

@@ -35,7 +35,8 @@ pub fn numbers(out: &mut Vec<u8>, c: &Call, stored: usize, before: &Buffers, num
     out.extend([c.op, c.fill, number as u8, c.long]);
     let (dc, ac) = if c.long == 0 { (before.dc.len(), before.ac.len()) } else { (0, 0) };
     let short = [c.settings.preset, c.settings.dc_shift as usize, c.place, dc, ac, stored];
-    let parts = c.parts.iter().map(|p| p.stride).chain(c.parts.iter().map(|p| p.at)).chain(c.parts.iter().map(|p| p.len));
+    let parts =
+        c.parts.iter().map(|p| p.stride).chain(c.parts.iter().map(|p| p.at)).chain(c.parts.iter().map(|p| p.len));
     for n in short.into_iter().chain(parts) {
         out.extend(u16::try_from(n).unwrap().to_le_bytes());
     }

@@ -105,5 +105,9 @@ pub fn blocks(t: &mut Table) {
             }
         }
     });
-    t.row("dequantising, inverse transform and store of a block, 10-bit", N, &mut [&mut ours, &mut sse2, &mut portable]);
+    t.row(
+        "dequantising, inverse transform and store of a block, 10-bit",
+        N,
+        &mut [&mut ours, &mut sse2, &mut portable],
+    );
 }

@@ -12,7 +12,7 @@ use std::hint::black_box;
 const SIZE: (usize, usize) = (1920, 1080);
 const PAGE: usize = 4096;
 
-/// The streams, and the frame of them behind some other bytes. Where all this lies moves the time of a copy by up to a sixth:
+/// The streams, and the frame of them after some other bytes. Where all this lies moves the time of a copy by up to a sixth:
 /// so both sides build the frame in the same memory, and each lap in other memory, at another place of a page.
 pub struct Frame {
     layout: Layout,

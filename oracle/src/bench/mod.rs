@@ -26,25 +26,31 @@ const ROW: Duration = Duration::from_millis(200);
 /// so each round starts at another depth of the stack, over a page and more.
 const DEPTHS: usize = 15;
 
+type Part = (&'static str, fn(&mut Table));
+
+const PARTS: [Part; 5] = [
+    ("symbols", blocks::symbols),
+    ("blocks", blocks::blocks),
+    ("8-bit", |t| planes::calls::<u8>(t, "8-bit")),
+    ("10-bit", |t| planes::calls::<u16>(t, "10-bit")),
+    ("frames", frames::frames),
+];
+
 /// All parts, or those that are named.
 pub fn run(parts: &[&str]) -> ExitCode {
-    let all: [(&str, fn(&mut Table)); 5] = [
-        ("symbols", blocks::symbols),
-        ("blocks", blocks::blocks),
-        ("8-bit", |t| planes::calls::<u8>(t, "8-bit")),
-        ("10-bit", |t| planes::calls::<u16>(t, "10-bit")),
-        ("frames", frames::frames),
-    ];
     let mut table = Table { lap: 0, frames: Vec::new(), rows: Vec::new() };
     for lap in 0..LAPS {
         table.lap = lap;
-        for (name, part) in all {
+        for (name, part) in PARTS {
             if parts.is_empty() || parts.contains(&name) {
                 part(&mut table);
             }
         }
     }
-    println!("ns each, best of {} rounds or more of {TURNS} turns; ratio: ours over the column before it", LAPS * ROUNDS);
+    println!(
+        "ns each, best of {} rounds or more of {TURNS} turns; ratio: ours over the column before it",
+        LAPS * ROUNDS
+    );
     println!("No buffer is cleared before a turn. The Rust's coding also grows its vectors.\n");
     table.print();
     ExitCode::SUCCESS
@@ -116,7 +122,11 @@ fn content<T: Made>(stride: usize) -> Plane<T> {
             let (x, y) = (i % stride, i / stride);
             let m = T::MAX as usize;
             let v = (x * m / stride + 3 * y) % (m + 1);
-            if x < stride / 2 { v as u16 } else { ((v + rng.below(m / 4)) % (m + 1)) as u16 }
+            if x < stride / 2 {
+                v as u16
+            } else {
+                ((v + rng.below(m / 4)) % (m + 1)) as u16
+            }
         })
         .collect();
     (0, stride, lanes.into_iter().map(|v| T::make(&mut rng, v)).collect())

@@ -18,10 +18,20 @@ pub fn calls<T: Made>(t: &mut Table, depth: &str) {
     for (stride, presets) in [(1920, &[0, 8, 24][..]), (64, &[8]), (WIDE, &[8])] {
         let planes = cut(&content::<T>(WIDE), stride);
         for preset in presets {
-            coding(t, &format!("{depth}, stride {stride}, preset {preset}"), Settings { preset: *preset, dc_shift: 0 }, &planes);
+            coding(
+                t,
+                &format!("{depth}, stride {stride}, preset {preset}"),
+                Settings { preset: *preset, dc_shift: 0 },
+                &planes,
+            );
         }
         for preset in presets {
-            reading(t, &format!("{depth}, stride {stride}, preset {preset}"), Settings { preset: *preset, dc_shift: 0 }, &planes);
+            reading(
+                t,
+                &format!("{depth}, stride {stride}, preset {preset}"),
+                Settings { preset: *preset, dc_shift: 0 },
+                &planes,
+            );
         }
     }
     slices::<T>(t, depth);

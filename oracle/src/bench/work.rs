@@ -11,7 +11,7 @@ use reference::api::{Path, PATHS};
 use std::hint::black_box;
 use std::process::ExitCode;
 
-/// `what` is the work, with the samples' depth behind it where there are samples.
+/// `what` is the work, with the samples' depth at its end where there are samples.
 pub fn work(who: &str, what: &str, times: usize) -> ExitCode {
     let path = match who {
         "ours" => None,

@@ -55,7 +55,8 @@ fn written(run: &mut Run) {
     let mut out = before;
     let end = ours::bits::write(&kinds, &runs, &codes, at, &mut out);
     let equal = end == at + w.bytes().len() && out == wanted;
-    run.report.many(kind, equal, kinds.len() as u64, kinds.len(), || format!("from byte {at}: {kinds:?} {runs:?} {codes:?}"));
+    run.report
+        .many(kind, equal, kinds.len() as u64, kinds.len(), || format!("from byte {at}: {kinds:?} {runs:?} {codes:?}"));
 }
 
 /// A number of at most `most` bits, all bit lengths equally often.

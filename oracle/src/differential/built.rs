@@ -5,6 +5,7 @@ use crate::gen::frames::{self, Parts};
 use crate::gen::Rng;
 use crate::ours::builder::{self, State};
 use crate::ours::shown;
+use crate::questions::{strides, NO_LIMIT, NO_ROOM, NO_ROWS, NO_SHIFT, NO_STRIDE, NO_TURN, SHIFT_MAX, SLICES_MAX};
 use reference::api::layout::{number, write, Layout};
 
 pub fn run(run: &mut Run) {
@@ -34,8 +35,8 @@ fn built(run: &mut Run) {
     let size = (p.width, p.height);
     let frame = write(&l, p.interlaced, p.quality as i32, p.dc_shift, &p.dc, &p.ac);
     let at = run.rng.below(7);
-    let behind = run.rng.below(7);
-    let before = run.rng.bytes(at + frame.len() + behind);
+    let after = run.rng.below(7);
+    let before = run.rng.bytes(at + frame.len() + after);
     let mut out = before.clone();
     let mut state = match builder::start(size, p.interlaced, p.quality, p.dc_shift, &mut out, at) {
         Ok(state) => state,
@@ -48,7 +49,7 @@ fn built(run: &mut Run) {
         let number = builder::stream(&mut state, ac, slice, bytes, &mut out);
         if bytes.len() > limit {
             whole = false;
-            run.report.same(limits, &(number, state, &out), &(13, was, &held), bytes.len(), || {
+            run.report.same(limits, &(number, state, &out), &(NO_LIMIT, was, &held), bytes.len(), || {
                 format!("ac {ac} slice {slice} of {} bytes, limit {limit}", bytes.len())
             });
             break;
@@ -69,7 +70,7 @@ fn built(run: &mut Run) {
         s[5] = 0;
         let held = s;
         let found = builder::stream(&mut s, done.0, done.1, &[], &mut full);
-        run.report.same(kind, &(found, s), &(14, held), 0, || format!("after the last stream: {p:?}"));
+        run.report.same(kind, &(found, s), &(NO_TURN, held), 0, || format!("after the last stream: {p:?}"));
     }
 }
 
@@ -92,11 +93,11 @@ fn out_of_turn(run: &mut Run) {
     let mut out = before.clone();
     let in_turn = slice == state[4] && (ac == (state[3] == 1)) && slice < l.slices();
     let number = if n.checked_sub(at).is_none_or(|left| left < room) {
-        6
+        NO_ROOM
     } else if len > limit {
-        13
+        NO_LIMIT
     } else if !in_turn {
-        14
+        NO_TURN
     } else {
         0
     };
@@ -131,10 +132,10 @@ fn header_refused(run: &mut Run) {
     let n = rng.below(10);
     let at = if rng.once_in(4) { rng.next() as usize } else { rng.below(8) };
     let header = if shift > 0 { 5 } else { 3 };
-    let wanted = if shift > 15 {
-        2
+    let wanted = if shift > SHIFT_MAX {
+        NO_SHIFT
     } else if n.checked_sub(at).is_none_or(|left| left < header) {
-        6
+        NO_ROOM
     } else if let Err(e) = Layout::new(size.0, size.1) {
         number(e)
     } else {
@@ -146,9 +147,8 @@ fn header_refused(run: &mut Run) {
     let before = rng.bytes(n);
     let mut out = before.clone();
     let found = builder::start(size, rng.once_in(2), 80, shift, &mut out, at);
-    run.report.same(kind, &(found, &out), &(Err(wanted), &before), n, || {
-        format!("{size:?} shift {shift} room {n} at {at}")
-    });
+    run.report
+        .same(kind, &(found, &out), &(Err(wanted), &before), n, || format!("{size:?} shift {shift} room {n} at {at}"));
 }
 
 /// The slice's sixteen rows out of the new picture where it was accepted, out of the held one where not.
@@ -159,7 +159,7 @@ fn rows(run: &mut Run) {
     let slices = rng.between(1, 4);
     let slice = match rng.below(8) {
         0 => slices,
-        1 => rng.pick(&[269, 270, 271, usize::MAX, usize::MAX / 128]),
+        1 => rng.pick(&[SLICES_MAX - 1, SLICES_MAX, SLICES_MAX + 1, usize::MAX, usize::MAX / 128]),
         _ => rng.below(slices),
     };
     let len = |rng: &mut Rng| (slices * 16 * stride.min(24)).saturating_sub(if rng.once_in(6) { 1 } else { 0 });
@@ -167,12 +167,12 @@ fn rows(run: &mut Run) {
     let (new, held) = (rng.bytes(n), rng.bytes(m));
     let verdict = if rng.once_in(2) { 0 } else { rng.pick(&[1, 8, 14, u32::MAX]) };
     let whole = |len: usize| slice.checked_add(1).and_then(|s| s.checked_mul(16 * stride)).is_some_and(|e| e <= len);
-    let wanted = if stride % 8 != 0 || !(8..=7680).contains(&stride) {
-        Err(4)
+    let wanted = if strides(&[stride]) > 0 {
+        Err(NO_STRIDE)
     } else if !whole(n) || !whole(m) {
-        Err(5)
-    } else if slice >= 270 {
-        Err(14)
+        Err(NO_ROWS)
+    } else if slice >= SLICES_MAX {
+        Err(NO_TURN)
     } else {
         let from = if verdict == 0 { &new } else { &held };
         Ok(from[slice * 16 * stride..(slice + 1) * 16 * stride].to_vec())

@@ -58,7 +58,7 @@ fn forward(run: &mut Run, quants: &[Quant], k: &Kinds) {
     run.report.same(k.forward_paths, &f(Path::Portable), &wanted, size, text);
 }
 
-/// Rows with other samples between the block's and behind it: those stay.
+/// Rows with other samples between the block's and after it: those stay.
 fn inverse(run: &mut Run, quants: &[Quant], k: &Kinds) {
     let (kind, paths) = (k.inverse, k.inverse_paths);
     let nat = planes::coefficients(&mut run.rng);

@@ -81,14 +81,20 @@ fn corners(holds: &mut dyn FnMut(&str, bool)) {
         let mut rows = [7u8; 128];
         let dc = [0xC0, 0, 0, 0, 0, 0, 0, 0];
         let ends = slice::decode_plane(path, &mut rows, 8, 0, &q.decode, 0, (&dc, 0), (&[], 0));
-        holds("the Rust leaves block 0 of a plane whose block 1 is bad", ends.is_none() && rows[..64] == [128; 64] && rows[64..] == [7; 64]);
+        holds(
+            "the Rust leaves block 0 of a plane whose block 1 is bad",
+            ends.is_none() && rows[..64] == [128; 64] && rows[64..] == [7; 64],
+        );
         let (mut x, mut y) = ([7u8], [7u8]);
         let end = slice::decode_plane_preview(&mut x, &mut y, 8, 0, 0, (&dc, 0));
         holds("and that block's preview byte", end.is_none() && (x, y) == ([128], [7]));
     }
     let mut set = vec![(8, vec![7u8; 128]), (8, vec![7u8; 128])];
     let ok = slice::decode_one_slice(&mut set, &[0xF0, 0, 0, 0, 0, 0, 0, 0], &[], &q.decode, 0);
-    holds("the Rust leaves plane 0 of a slice whose plane 1 is bad", !ok && set[0].1 == [128; 128] && set[1].1 == [7; 128]);
+    holds(
+        "the Rust leaves plane 0 of a slice whose plane 1 is bad",
+        !ok && set[0].1 == [128; 128] && set[1].1 == [7; 128],
+    );
     holds("coefficient 2048 at place 0 becomes -2048 for 8-bit", {
         let a = lanes::two(PATHS[0], "mullo", [2048; 8], [q.decode[0] as i16; 8]);
         lanes::shift(PATHS[0], "srai16", a, 4) == [-2048; 8]

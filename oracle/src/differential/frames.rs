@@ -3,6 +3,7 @@
 use super::Run;
 use crate::gen::frames;
 use crate::ours;
+use crate::questions::{NO_ROWS, NO_TURN, SLICES_MAX};
 use crate::report::Kind;
 use reference::api::layout::{number, parse, write, Container, Layout};
 
@@ -82,7 +83,8 @@ fn small(run: &mut Run, kinds: &Kinds) {
         let l = Layout::new(width, height).unwrap();
         for shift in [0, 3] {
             for with_ac in [true, false] {
-                let streams = |n: usize| -> Vec<Vec<u8>> { (0..l.slices()).map(|i| vec![i as u8; (i + n) % 4]).collect() };
+                let streams =
+                    |n: usize| -> Vec<Vec<u8>> { (0..l.slices()).map(|i| vec![i as u8; (i + n) % 4]).collect() };
                 let ac = if with_ac { streams(2) } else { vec![] };
                 let frame = write(&l, true, 80, shift, &streams(1), &ac);
                 for cut in 0..=frame.len() {
@@ -129,19 +131,19 @@ fn bad_size(run: &mut Run, kinds: &Kinds, width: usize, height: usize) {
     let text = || format!("width {width} height {height} frame {frame:02x?}");
     run.report.same(kinds.refused, &ours::layout::parse(width, height, &frame), &Err(number(e)), n, text);
     run.report.same(kinds.views, &ours::layout::view(width, height, &frame, false, 0), &Err(number(e)), n, text);
-    let room = run.rng.pick(&[0, 4 * 270, 8]);
+    let room = run.rng.pick(&[0, 4 * SLICES_MAX, 8]);
     table(run, kinds, (width, height), &frame, room, &Err(number(e)));
 }
 
 /// All streams' places in a table of so many numbers: question 5 comes before all others, a refused call leaves the
-/// table as it was, and so do all numbers behind the places.
+/// table as it was, and so do all numbers after the places.
 fn table(run: &mut Run, kinds: &Kinds, size: (usize, usize), frame: &[u8], room: usize, rust: &Result<Container, u32>) {
     let (width, height) = size;
     let fill = run.rng.next() as u32;
     let mut wanted: Vec<u32> = (0..room as u32).map(|i| fill ^ i).collect();
     let mut found = wanted.clone();
     let slices = height / 16 + (height % 16 > 0) as usize;
-    let number = if room / 4 < slices { Err(5) } else { rust.as_ref().map(header).map_err(|x| *x) };
+    let number = if room / 4 < slices { Err(NO_ROWS) } else { rust.as_ref().map(header).map_err(|x| *x) };
     if let (Ok(_), Ok(c)) = (&number, rust) {
         let none = vec![(0, 0); slices];
         let ac = if c.ac.is_empty() { &none } else { &c.ac };
@@ -150,7 +152,11 @@ fn table(run: &mut Run, kinds: &Kinds, size: (usize, usize), frame: &[u8], room:
     }
     let answer = ours::layout::streams(width, height, frame, &mut found);
     run.report.same(kinds.tables, &(answer, found), &(number, wanted), frame.len(), || {
-        format!("width {width} height {height} room {room} frame of {}: {:02x?}", frame.len(), &frame[..frame.len().min(200)])
+        format!(
+            "width {width} height {height} room {room} frame of {}: {:02x?}",
+            frame.len(),
+            &frame[..frame.len().min(200)]
+        )
     });
 }
 
@@ -162,7 +168,8 @@ fn header(c: &Container) -> [usize; 5] {
 /// One frame: its header or its refusal, some of its streams, and all of them in a table.
 fn judged(run: &mut Run, kinds: &Kinds, width: usize, height: usize, l: &Layout, frame: &[u8]) {
     let rust = parse(l, frame).map_err(number);
-    let text = || format!("width {width} height {height} frame of {}: {:02x?}", frame.len(), &frame[..frame.len().min(200)]);
+    let text =
+        || format!("width {width} height {height} frame of {}: {:02x?}", frame.len(), &frame[..frame.len().min(200)]);
     let found = ours::layout::parse(width, height, frame);
     let wanted = rust.as_ref().map(header).map_err(|x| *x);
     let kind = if wanted.is_ok() { kinds.read } else { kinds.refused };
@@ -171,7 +178,7 @@ fn judged(run: &mut Run, kinds: &Kinds, width: usize, height: usize, l: &Layout,
         for ac in [false, true] {
             let wanted = rust.as_ref().map_err(|x| *x).and_then(|c| {
                 let list = if ac { &c.ac } else { &c.dc };
-                list.get(slice).copied().ok_or(14)
+                list.get(slice).copied().ok_or(NO_TURN)
             });
             let found = ours::layout::view(width, height, frame, ac, slice);
             run.report.same(kinds.views, &found, &wanted, frame.len(), || format!("slice {slice} ac {ac} {}", text()));

@@ -30,7 +30,13 @@ pub fn run(run: &mut Run) {
 }
 
 /// Compares what we and both paths of the Rust make of one input.
-fn three<A: PartialEq + Debug>(run: &mut Run, kind: Kind, ours: A, rust: impl Fn(Path) -> A, input: impl Fn() -> String) {
+fn three<A: PartialEq + Debug>(
+    run: &mut Run,
+    kind: Kind,
+    ours: A,
+    rust: impl Fn(Path) -> A,
+    input: impl Fn() -> String,
+) {
     let wanted = rust(Path::Sse2);
     run.report.same(kind, &ours, &wanted, 0, &input);
     run.report.same(kind, &rust(Path::Portable), &wanted, 0, || format!("the Rust's portable path: {}", input()));
@@ -43,7 +49,13 @@ struct Two {
 
 impl Two {
     fn check(&self, run: &mut Run, a: V16, b: V16) {
-        three(run, self.kind, ours::lanes::two(self.op, a, b), |p| lanes::two(p, self.op, a, b), || format!("{} {a:?} {b:?}", self.op));
+        three(
+            run,
+            self.kind,
+            ours::lanes::two(self.op, a, b),
+            |p| lanes::two(p, self.op, a, b),
+            || format!("{} {a:?} {b:?}", self.op),
+        );
     }
 
     /// Every extreme with every extreme, in every lane.
@@ -75,7 +87,13 @@ fn unary(run: &mut Run) {
         }
         for n in 0..16 {
             for (kind, op) in &shifts {
-                three(run, *kind, ours::lanes::shift(op, a, n), |p| lanes::shift(p, op, a, n), || format!("{a:?} by {n}"));
+                three(
+                    run,
+                    *kind,
+                    ours::lanes::shift(op, a, n),
+                    |p| lanes::shift(p, op, a, n),
+                    || format!("{a:?} by {n}"),
+                );
             }
         }
     }

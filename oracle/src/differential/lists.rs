@@ -1,5 +1,5 @@
 //! Calls in a row: positions carried from call to call, slices among planes,
-//! refused calls between, and what was coded read back with other bytes behind.
+//! refused calls between, and what was coded read back with other bytes after it.
 
 use super::Run;
 use crate::calls::{Buffers, Calls, Plane, Rust};
@@ -137,19 +137,21 @@ fn whole<T: Made>(run: &mut Run, rust: &Rust, other: &impl Calls, depth: &str) {
         }
         let found = call.code(other, &mut ours);
         let at = |b: &Buffers| (b.dc_at, b.ac_at);
-        run.report.same(coding, &(found, at(&ours)), &(wanted, at(&book)), calls.len(), || format!("{} in {}", call.text(), list()));
+        run.report.same(coding, &(found, at(&ours)), &(wanted, at(&book)), calls.len(), || {
+            format!("{} in {}", call.text(), list())
+        });
     }
     run.report.same(bytes, &ours, &book, calls.len(), list);
 
     // Reading: the coded bytes, then anything.
     let rng = &mut run.rng;
-    let behind = |rng: &mut Rng, s: &[u8]| {
+    let after = |rng: &mut Rng, s: &[u8]| {
         let mut v = s.to_vec();
         let n = rng.below(12);
         v.extend(if rng.once_in(2) { vec![0; n] } else { rng.bytes(n) });
         v
     };
-    let (dc, ac) = (behind(rng, &book.dc[..book.dc_at]), behind(rng, &book.ac[..book.ac_at]));
+    let (dc, ac) = (after(rng, &book.dc[..book.dc_at]), after(rng, &book.ac[..book.ac_at]));
     let mut b = Buffers { dc, dc_at: start.dc_at, ac, ac_at: start.ac_at };
     let mut c = b.clone();
     for call in accepted {

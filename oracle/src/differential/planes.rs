@@ -7,7 +7,7 @@ use crate::gen::planes::{self, Made};
 use crate::gen::streams::{self, Reading};
 use crate::gen::Rng;
 use crate::ours::planes::{self as ours, GUARDED};
-use crate::questions::{self, Settings};
+use crate::questions::{self, Settings, AC_READ_MAX, DC_READ_MAX, NO_CODE, NO_PLANE, START_MAX, STRIDE_MAX};
 use reference::api::Path;
 
 pub fn run(run: &mut Run) {
@@ -41,8 +41,8 @@ fn both<T: Made>(run: &mut Run, rust: &Rust, portable: &Rust, depth: &str) {
 /// Bytes of a buffer: junk, then room for `need` bytes, then more junk.
 fn buffer(rng: &mut Rng, need: usize) -> (Vec<u8>, usize) {
     let at = if rng.once_in(3) { 0 } else { rng.below(30) };
-    let behind = if rng.once_in(3) { 0 } else { rng.below(20) };
-    (rng.bytes(at + need + behind), at)
+    let after = if rng.once_in(3) { 0 } else { rng.below(20) };
+    (rng.bytes(at + need + after), at)
 }
 
 fn text<T: std::fmt::Debug>(s: Settings, (place, stride, rows): &Plane<T>, b: &Buffers) -> String {
@@ -63,7 +63,7 @@ fn coded<T: Made>(run: &mut Run, rust: &Rust, other: &impl PlaneCoder, depth: &s
     let rng = &mut run.rng;
     let stride = planes::stride(rng);
     let mut rows: Vec<T> = planes::samples(rng, stride);
-    // Samples behind the sixteen rows are not looked at.
+    // Samples after the sixteen rows are not looked at.
     if rng.once_in(3) {
         rows.extend((0..rng.below(20)).map(|_| T::any(rng)));
     }
@@ -87,7 +87,7 @@ fn read<T: Made>(run: &mut Run, rust: &Rust, other: &impl Calls, depth: &str) {
         rust.streams::<T>(settings, &(r.place, r.stride, planes::samples(rng, r.stride)))
     });
     let settings = Settings { preset: r.preset, dc_shift: r.dc_shift };
-    // Samples behind the sixteen rows stay.
+    // Samples after the sixteen rows stay.
     let mut rows = r.rows.clone();
     rows.extend((0..run.rng.below(12)).map(|_| T::any(&mut run.rng)));
     let plane = (r.place, r.stride, rows);
@@ -112,7 +112,7 @@ fn ends_agree<T>(run: &mut Run, rust: &Rust, r: &Reading<T>, before: &Buffers, n
     let mut b = before.clone();
     let dc = rust.preview(r.dc_shift, r.place, r.stride, [&mut x, &mut y], &mut b);
     let ac = rust.block_report(r.stride, &mut flat, &mut b);
-    let found = if dc == 0 && ac == 0 { (0, (b.dc_at, b.ac_at)) } else { (8, (before.dc_at, before.ac_at)) };
+    let found = if dc == 0 && ac == 0 { (0, (b.dc_at, b.ac_at)) } else { (NO_CODE, (before.dc_at, before.ac_at)) };
     run.report.same(kind, &found, &(number, ends), r.size(), || r.text());
 }
 
@@ -142,13 +142,14 @@ fn reported<T>(run: &mut Run, rust: &Rust, other: &impl Calls, r: &Reading<T>, b
     run.report.same(kind, &(found, y, c), &(wanted, x, b), r.size(), || r.text());
 }
 
-/// A number that is mostly within, at times at the limit, past it, or anything.
+/// A number that is mostly within, at times at the limit, past it, within when it is cut to 32 bits, or anything.
 fn around(rng: &mut Rng, limit: usize) -> usize {
     match rng.below(12) {
         0 => limit + 1,
         1 => rng.next() as usize,
         2 => usize::MAX - rng.below(3),
         3 => limit,
+        4 => (1 << 32) + rng.below(limit + 1),
         _ => rng.below(limit + 1),
     }
 }
@@ -240,7 +241,7 @@ fn counts<T: Made>(run: &mut Run) {
     let (most_dc, most_ac) = questions::sizes(32);
     let before = Buffers { dc: vec![0x5A; most_dc], dc_at: 0, ac: vec![0x5A; most_ac], ac_at: 0 };
     for count in [0, 1, 2, 3, 4, 5, 6, 255, 256, 260, 1 << 32, (1 << 32) + 1, usize::MAX] {
-        let wanted = if (1..=4).contains(&count) { 0 } else { 3 };
+        let wanted = if (1..=4).contains(&count) { 0 } else { NO_PLANE };
         let (p, mut b) = (planes.clone(), before.clone());
         let coded = GUARDED.code_counted(settings, count, &p, &mut b);
         let moved = b != before;
@@ -248,9 +249,12 @@ fn counts<T: Made>(run: &mut Run) {
         let read = GUARDED.read_counted(settings, count, &mut q, &mut c);
         let changed = q != planes || c != before;
         let above = q.iter().zip(&planes).skip(count).all(|(x, y)| x == y);
-        run.report.check(kind, coded == wanted && read == wanted && moved == (wanted == 0) && changed == (wanted == 0) && above, 0, || {
-            format!("count {count}: {coded} and {read}, wanted {wanted}")
-        });
+        run.report.check(
+            kind,
+            coded == wanted && read == wanted && moved == (wanted == 0) && changed == (wanted == 0) && above,
+            0,
+            || format!("count {count}: {coded} and {read}, wanted {wanted}"),
+        );
     }
 }
 
@@ -265,9 +269,10 @@ fn sizes(run: &mut Run) {
     }
     for _ in 0..20_000 {
         let rng = &mut run.rng;
-        let s: [usize; 4] = core::array::from_fn(|_| if rng.once_in(6) { around(rng, 7680) } else { 8 * rng.between(1, 960) });
+        let s: [usize; 4] =
+            core::array::from_fn(|_| if rng.once_in(6) { around(rng, STRIDE_MAX) } else { 8 * rng.between(1, 960) });
         let count = around(rng, 4);
-        let number = if (1..=4).contains(&count) { questions::strides(&s[..count]) } else { 3 };
+        let number = if (1..=4).contains(&count) { questions::strides(&s[..count]) } else { NO_PLANE };
         let wanted = if number == 0 {
             s[..count].iter().map(|s| questions::sizes(*s)).fold((0, 0, 0), |a, b| (0, a.1 + b.0, a.2 + b.1))
         } else {
@@ -283,7 +288,7 @@ fn far_coding<T: Made>(run: &mut Run, rust: &Rust, other: &impl PlaneCoder) {
     let settings = Settings { preset: 3, dc_shift: 1 };
     let plane = (0, 8, vec![T::default(); 128]);
     let (most_dc, most_ac) = questions::sizes(8);
-    for (d, a) in [(16_777_215, 3), (3, 16_777_215), (16_777_216, 3), (3, 16_777_216)] {
+    for (d, a) in [(START_MAX, 3), (3, START_MAX), (START_MAX + 1, 3), (3, START_MAX + 1)] {
         let before = Buffers { dc: vec![0x5A; d + most_dc], dc_at: d, ac: vec![0x5A; a + most_ac], ac_at: a };
         let (mut b, mut c) = (before.clone(), before);
         let wanted = rust.code_plane(settings, &plane, &mut b);
@@ -298,12 +303,12 @@ fn far_reading<T: Made>(run: &mut Run, rust: &Rust, other: &impl Calls) {
     let settings = Settings { preset: 3, dc_shift: 1 };
     let plane = (0, 8, vec![T::default(); 128]);
     for (d, a, x, y) in [
-        (245_760, 430_080, 0, 0),
-        (245_761, 3, 0, 0),
-        (3, 430_081, 0, 0),
-        (3, 3, 16_777_215, 16_777_215),
-        (3, 3, 16_777_216, 0),
-        (3, 3, 0, 16_777_216),
+        (DC_READ_MAX, AC_READ_MAX, 0, 0),
+        (DC_READ_MAX + 1, 3, 0, 0),
+        (3, AC_READ_MAX + 1, 0, 0),
+        (3, 3, START_MAX, START_MAX),
+        (3, 3, START_MAX + 1, 0),
+        (3, 3, 0, START_MAX + 1),
     ] {
         let before = Buffers { dc: vec![0xFF; d], dc_at: x, ac: vec![0xFF; a], ac_at: y };
         let (mut p, mut b) = (plane.clone(), before.clone());

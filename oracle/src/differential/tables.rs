@@ -18,7 +18,8 @@ pub fn run(run: &mut Run) {
             let [c, f, s] = [q.encode[place], q.encode[64 + place], q.encode[128 + place]];
             run.report.same(pinned, &[c, f, s], &reciprocal(d), place, || format!("preset {preset} place {place}"));
             let wrong = (0..=32768u32).find(|x| {
-                let two = ((((x + c as u32) & 0xffff) * f as u32) >> 16) * s as u32 >> 16;
+                let one = (((x + c as u32) & 0xffff) * f as u32) >> 16;
+                let two = (one * s as u32) >> 16;
                 two != (x + d as u32 / 2) / d as u32
             });
             run.report.check(rule, wrong.is_none(), place, || format!("preset {preset} place {place} x {wrong:?}"));

@@ -27,7 +27,10 @@ pub fn any_dimensions(rng: &mut Rng) -> (usize, usize) {
         1 => rng.below(9000),
         _ => rng.pick(limits).wrapping_add(rng.below(5)).wrapping_sub(2),
     };
-    (side(rng, &[0, 16, 18, 640, 1920, 7680, usize::MAX]), side(rng, &[0, 16, 480, 576, 1080, 4081, 4096, 4320, usize::MAX]))
+    (
+        side(rng, &[0, 16, 18, 640, 1920, 7680, usize::MAX]),
+        side(rng, &[0, 16, 480, 576, 1080, 4081, 4096, 4320, usize::MAX]),
+    )
 }
 
 /// A stream's bytes: mostly short, at times at or past its limit.
@@ -77,7 +80,7 @@ pub fn parts(rng: &mut Rng) -> Parts {
     }
 }
 
-/// One change to a frame: a byte, a cut, bytes behind, another header.
+/// One change to a frame: a byte, a cut, bytes at its end, another header.
 pub fn change(rng: &mut Rng, frame: &mut Vec<u8>) {
     let len = frame.len();
     match rng.below(8) {

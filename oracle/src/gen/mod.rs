@@ -56,6 +56,7 @@ pub const EXTREMES: [i16; 38] = [
 ];
 
 /// Where 32-bit lane operations change their course.
+#[rustfmt::skip]
 pub const EXTREMES32: [i32; 22] = [
     i32::MIN, i32::MIN + 1, -0x4000_0000, -0x1_0000, -0xffff, -32769, -32768, -32767, -256, -1, 0, 1, 2, 255, 32766,
     32767, 32768, 0xffff, 0x1_0000, 0x3fff_ffff, i32::MAX - 1, i32::MAX,

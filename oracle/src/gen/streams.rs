@@ -12,7 +12,7 @@ pub struct Bits {
 impl Bits {
     pub fn put(&mut self, v: u64, n: usize) {
         for k in (0..n).rev() {
-            if self.len % 8 == 0 {
+            if self.len.is_multiple_of(8) {
                 self.bytes.push(0);
             }
             let bit = ((v >> k) & 1) as u8;
@@ -92,7 +92,7 @@ pub fn ac_codes(rng: &mut Rng, out: &mut Bits, places: usize) {
             3 if rng.once_in(10) => {
                 let z = zeros(rng, true);
                 out.long_run(rng, z);
-                // Its length is not known here: behind it stand codes for the rest.
+                // Its length is not known here: codes for the rest follow it.
                 at += 1;
                 continue;
             }

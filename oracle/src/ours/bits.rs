@@ -1,6 +1,6 @@
-//! Crates bitacc and bitreader, by crates/probe/src/of_bitacc.rt and of_bitreader.rt, and by crates/probe_pairs.
+//! Crates bitwriter and bitreader, by crates/probe/src/of_bitacc.rt and of_bitreader.rt, and by crates/probe_pairs.
 
-extern "C" {
+unsafe extern "C" {
     fn probe_bitacc_write(
         kinds: *const u8,
         kn: usize,
@@ -28,6 +28,7 @@ extern "C" {
 pub fn write(kinds: &[u8], runs: &[u32], codes: &[u32], at: usize, out: &mut [u8]) -> usize {
     assert!(runs.len() == kinds.len() && codes.len() == kinds.len());
     let n = kinds.len();
+    // SAFETY: three slices of n, which are only read, and the output with its own length.
     unsafe {
         probe_bitacc_write(kinds.as_ptr(), n, runs.as_ptr(), n, codes.as_ptr(), n, at, out.as_mut_ptr(), out.len())
     }
@@ -35,12 +36,13 @@ pub fn write(kinds: &[u8], runs: &[u32], codes: &[u32], at: usize, out: &mut [u8
 
 /// Runs with values in a row, in one loop as a block writes them; the end, 0 where there are not eight bytes for each.
 pub fn write_pairs(runs: &[u32], codes: &[u32], at: usize, out: &mut [u8]) -> usize {
+    // SAFETY: slices with their own lengths; the output is apart from the two that are read.
     unsafe {
         probe_pairs_write(runs.as_ptr(), runs.len(), codes.as_ptr(), codes.len(), at, out.as_mut_ptr(), out.len())
     }
 }
 
-/// A code that was read: head bit, number (0: a bad code), the bit behind it.
+/// A code that was read: head bit, number (0: a bad code), the bit after it.
 #[derive(Clone, Copy, Debug, Default, PartialEq, Eq)]
 pub struct Code {
     pub run: u64,
@@ -57,5 +59,6 @@ pub fn read(s: &[u8], at: usize, dc: bool, most: usize) -> Vec<Code> {
 
 /// As many codes as there is room for, three numbers each; how many numbers were stored.
 pub fn read_into(s: &[u8], at: usize, dc: bool, out: &mut [u64]) -> usize {
+    // SAFETY: slices with their own lengths; the output is apart from the stream.
     unsafe { probe_bitreader_read(s.as_ptr(), s.len(), at, dc, out.as_mut_ptr(), out.len()) }
 }

@@ -1,24 +1,25 @@
 //! Frame geometry and reading a frame, through the library that programs link (include/vmx.h).
 
-extern "C" {
-    fn vmx_layout(
-        width: usize, height: usize, aligned_height: *mut usize, slices: *mut usize, luma: *mut usize, chroma: *mut usize,
-        max_dc: *mut usize, max_ac: *mut usize,
+#[rustfmt::skip]
+unsafe extern "C" {
+    safe fn vmx_layout(
+        width: usize, height: usize, aligned_height: &mut usize, slices: &mut usize, luma: &mut usize, chroma: &mut usize,
+        max_dc: &mut usize, max_ac: &mut usize,
     ) -> u32;
-    fn vmx_interlace_capable(height: usize) -> u32;
-    fn vmx_image_row(height: usize, r: usize, interlaced: u32, row: *mut usize) -> u32;
-    fn vmx_preview_width(width: usize) -> usize;
-    fn vmx_preview_height(height: usize, interlaced: u32) -> usize;
+    safe fn vmx_interlace_capable(height: usize) -> u32;
+    safe fn vmx_image_row(height: usize, r: usize, interlaced: u32, row: &mut usize) -> u32;
+    safe fn vmx_preview_width(width: usize) -> usize;
+    safe fn vmx_preview_height(height: usize, interlaced: u32) -> usize;
     fn vmx_parse(
-        width: usize, height: usize, frame: *const u8, n: usize, interlaced: *mut u32, quality: *mut u32, shift: *mut u32,
-        header_len: *mut usize, ac: *mut u32,
+        width: usize, height: usize, frame: *const u8, n: usize, interlaced: &mut u32, quality: &mut u32, shift: &mut u32,
+        header_len: &mut usize, ac: &mut u32,
     ) -> u32;
     fn vmx_streams(
-        width: usize, height: usize, frame: *const u8, n: usize, views: *mut u32, room: usize, interlaced: *mut u32,
-        quality: *mut u32, shift: *mut u32, header_len: *mut usize, ac: *mut u32,
+        width: usize, height: usize, frame: *const u8, n: usize, views: *mut u32, room: usize, interlaced: &mut u32,
+        quality: &mut u32, shift: &mut u32, header_len: &mut usize, ac: &mut u32,
     ) -> u32;
     fn vmx_stream(
-        width: usize, height: usize, frame: *const u8, n: usize, ac: u32, slice: usize, offset: *mut usize, len: *mut usize,
+        width: usize, height: usize, frame: *const u8, n: usize, ac: u32, slice: usize, offset: &mut usize, len: &mut usize,
     ) -> u32;
 }
 
@@ -26,7 +27,7 @@ extern "C" {
 pub fn new(width: usize, height: usize) -> Result<[usize; 6], u32> {
     let mut out = [7; 6];
     let [h, s, y, c, d, a] = &mut out;
-    match unsafe { vmx_layout(width, height, h, s, y, c, d, a) } {
+    match vmx_layout(width, height, h, s, y, c, d, a) {
         0 => Ok(out),
         number => {
             assert_eq!(out, [7; 6], "a refused size stores nothing");
@@ -36,27 +37,29 @@ pub fn new(width: usize, height: usize) -> Result<[usize; 6], u32> {
 }
 
 pub fn interlace_capable(height: usize) -> bool {
-    unsafe { vmx_interlace_capable(height) == 1 }
+    vmx_interlace_capable(height) == 1
 }
 
 pub fn image_row(height: usize, r: usize, interlaced: bool) -> Option<usize> {
     let mut row = 0;
-    (unsafe { vmx_image_row(height, r, interlaced as u32, &mut row) } == 1).then_some(row)
+    (vmx_image_row(height, r, interlaced as u32, &mut row) == 1).then_some(row)
 }
 
 pub fn preview_size(width: usize, height: usize, interlaced: bool) -> (usize, usize) {
-    unsafe { (vmx_preview_width(width), vmx_preview_height(height, interlaced as u32)) }
+    (vmx_preview_width(width), vmx_preview_height(height, interlaced as u32))
 }
 
 /// Interlaced, quality, DC shift, header length, AC there; or the refusal's number.
 pub fn parse(width: usize, height: usize, frame: &[u8]) -> Result<[usize; 5], u32> {
     let (p, n) = (frame.as_ptr(), frame.len());
+    // SAFETY: the frame with its own length.
     header(|[a, b, c, d], len| unsafe { vmx_parse(width, height, p, n, a, b, c, len, d) })
 }
 
 /// The same, and all streams' offsets and lengths in the table.
 pub fn streams(width: usize, height: usize, frame: &[u8], table: &mut [u32]) -> Result<[usize; 5], u32> {
     let (p, n, t, room) = (frame.as_ptr(), frame.len(), table.as_mut_ptr(), table.len());
+    // SAFETY: frame and table with their own lengths, which do not overlap.
     header(|[a, b, c, d], len| unsafe { vmx_streams(width, height, p, n, t, room, a, b, c, len, d) })
 }
 
@@ -75,6 +78,7 @@ fn header(call: impl FnOnce([&mut u32; 4], &mut usize) -> u32) -> Result<[usize;
 pub fn view(width: usize, height: usize, frame: &[u8], ac: bool, slice: usize) -> Result<(usize, usize), u32> {
     let (mut offset, mut len) = (7, 7);
     let (p, n) = (frame.as_ptr(), frame.len());
+    // SAFETY: the frame with its own length.
     match unsafe { vmx_stream(width, height, p, n, ac as u32, slice, &mut offset, &mut len) } {
         0 => Ok((offset, len)),
         number => {

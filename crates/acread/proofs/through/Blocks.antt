@@ -8,10 +8,10 @@ use lib.Dec.{ltb}
 use Rattle.ask.specs.Ask.{Answer, refused, accepted}
 use Rattle.bits.specs.Bits.{Stream, bytesFor}
 use Rattle.calls.specs.ReadPlane.{Places, badPlaces, places, readPlaces, BlockRead, Blocks, badBlocks, blocks, blockThen, byPlaces, readBlocks}
-use Rattle.calls.specs.Questions.{badCode}
 use Rattle.acread.specs.Block.{Ends, badEnds, ends, endsOf}
 use Rattle.acread.specs.Block.{flatByte}
 use Rattle.acread.specs.through.Through.{blockEnds, goodEnds, reportsOf, acEnd}
+use Rattle.ask.specs.Numbers.{noCode}
 
 never : {q r : ℕ} → badEnds ≡ ends q r → ⊥
 never e = let z : _≡_ {A = ℕ} 0 1 = cc in omega arith

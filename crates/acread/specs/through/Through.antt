@@ -5,11 +5,11 @@ use Prim.Native.Nat.{ℕ}
 use Rattle.ask.specs.Ask.{Answer, refused, accepted}
 use Rattle.bits.specs.Bits.{bytesFor}
 use Rattle.calls.specs.ReadPlane.{Blocks, badBlocks, blocks}
-use Rattle.calls.specs.Questions.{badCode}
 use Rattle.calls.specs.Previews.{reportByte}
 use Rattle.acread.specs.Block.{Ends, badEnds, ends}
 use Rattle.acread.specs.declared.through.PlaneEnd.{PlaneEnd}
 use Rattle.acread.specs.declared.through.PlaneEnd.the-variants as plane
+use Rattle.ask.specs.Numbers.{noCode}
 
 -- where the blocks read end
 abbrev pub blockEnds : Blocks → Ends
@@ -28,7 +28,7 @@ reportsOf (blocks bs q r) = map reportByte bs
 
 -- "hands back the AC position where the plane ended"; question 8
 abbrev pub acEnd : Blocks → Answer ℕ
-acEnd badBlocks = refused badCode
+acEnd badBlocks = refused noCode
 acEnd (blocks bs q r) = accepted (bytesFor q)
 
 abbrev pub endSays : PlaneEnd → Answer ℕ

@@ -8,7 +8,7 @@ use Rattle.ask.specs.Ask.{Answer, refused, accepted}
 use Rattle.scalar.specs.Scalar.{addOf, sraOf, modZ}
 use Rattle.bits.specs.Bits.{bytesFor}
 use Rattle.calls.specs.ReadPlane.{DcStep, keep, replace, DcSteps, badSteps, dcSteps, predicted}
-use Rattle.calls.specs.Questions.{badCode}
+use Rattle.ask.specs.Numbers.{noCode}
 
 -- a code by its head bit and its number: "A DC code whose first bit is one is a zero step"
 abbrev pub stepOf : ℕ → ℕ → DcStep
@@ -34,7 +34,7 @@ bytesFrom shift level n steps before = map (byteOf level) (predicted shift befor
 
 -- the bit behind the codes; question 8
 abbrev pub dcBit : DcSteps → Answer ℕ
-dcBit badSteps = refused badCode
+dcBit badSteps = refused noCode
 dcBit (dcSteps ts q) = accepted q
 
 abbrev pub inBytes : Answer ℕ → Answer ℕ

@@ -1,53 +1,39 @@
--- `builder::header_number`: each return is the first "no".
+-- `builder::header_number`: one question after the other, from the last to the first.
 use borrow.Author.Needs.{needs}
-use borrow.Author.Tests.{lt-ltb, le-ltb, le-leb, lt-leb, eq-eqb, ne-eqb}
-use mathlib.Core.Path.{_≡_, refl, sym, _∙_, ap}
-use mathlib.Core.Bool.{true, false}
-use mathlib.Core.List.{List, [], _∷_, _++_}
-use native.Mathlib.Omega.{arith}
-use Prim.Native.Nat.{ℕ, _+_, _*_, _-_, _/_, _%_, _≤_, _<_}
-use lib.ListN.{length, take, drop, length-set}
+use mathlib.Core.Path.{_≡_, _∙_, ap, ap₂}
+use mathlib.Core.Bool.{Bool}
+use Prim.Native.Nat.{ℕ, _+_}
 use lib.Dec.{leb}
-use Rattle.builder.specs.Build.{headerLength}
-use Rattle.builder.proofs.Laws.{no-shift, no-room, no-size, all-yes}
+use Rattle.ask.specs.Ask.{orElse, firstNo}
+use Rattle.ask.specs.Numbers.{noShift, noRoom, noSize}
+use Rattle.builder.specs.Build.{headerQuestions}
 use Rattle.builder.proofs.header_number.Statement.{statement}
 use Rattle.builder.proofs.header_number.Tie as tie
 
 returns : tie.Need-returns
+unfolding headerQuestions firstNo
 returns c =
-    let a = c .before .args in
-    sym (no-shift (a .width) (a .height) (a .shift) (a .len) (a .at) (c .if1 .taken))
-
-returns-2 : tie.Need-returns-2
-returns-2 c =
-    let t = c .before .before in
-    let f = t .before in
-    let e = f .before .before in
-    let a = e .before .args in
-    sym
-    (all-yes (a .width) (a .height) (a .shift) (a .len) (a .at) (omega arith)
-    (sym (f .fits2 .ensures ∙ ap (λ n. leb (a .at + n) (a .len)) (f .before .header-length .ensures .0)) ∙ t .if2 .taken) (sym (c .before .size-ok .ensures) ∙ c .if3 .taken))
-
-returns-3 : tie.Need-returns-3
-returns-3 c =
-    let t = c .before .before in
-    let f = t .before in
-    let e = f .before .before in
-    let a = e .before .args in
-    sym
-    (no-size (a .width) (a .height) (a .shift) (a .len) (a .at) (omega arith)
-    (sym (f .fits2 .ensures ∙ ap (λ n. leb (a .at + n) (a .len)) (f .before .header-length .ensures .0)) ∙ t .if2 .taken) (sym (c .before .size-ok .ensures) ∙ c .if3 .left))
-
-returns-4 : tie.Need-returns-4
-returns-4 c =
-    let f = c .before in
-    let e = f .before .before in
-    let a = e .before .args in
-    sym
-    (no-room (a .width) (a .height) (a .shift) (a .len) (a .at) (omega arith)
-    (sym (f .fits2 .ensures ∙ ap (λ n. leb (a .at + n) (a .len)) (f .before .header-length .ensures .0)) ∙ c .if2 .left))
+    let from-room = c .before in
+    let from-size = from-room .before in
+    let size = from-size .before in
+    let room = size .before in
+    let long = room .before in
+    let shift = long .before in
+    let a = shift .before .args in
+    c .or-else3 .ensures
+    ∙ ap₂ (λ (b : Bool) (n : ℕ). orElse b noShift n) (shift .shift-ok .ensures) (from-room .or-else2 .ensures
+    ∙ ap₂ (λ (b : Bool) (n : ℕ). orElse b noRoom n) (room .fits2 .ensures ∙ ap (λ (n : ℕ). leb (a .at + n) (a .len)) (long .header-length .ensures .0)) (from-size .or-else .ensures
+    ∙ ap (λ (b : Bool). orElse b noSize 0) (size .size-ok .ensures)))
 
 pub header-number-spec : {M : Type 1} → statement M
 header-number-spec =
     tie.close
-    (tie.spec returns (λ c κs. search needs) (λ c κs. search needs) (λ c κs. search needs) returns-2 returns-3 returns-4)
+    (tie.spec
+    (λ c κs. search needs)
+    (λ c κs. search needs)
+    (λ c κs. search needs)
+    (λ c κs. search needs)
+    (λ c κs. search needs)
+    (λ c κs. search needs)
+    (λ c κs. search needs)
+    returns)

@@ -22,27 +22,11 @@ by-difference4 len at n h = go (leb (at + (4 + n)) len) refl
     go true e = le-leb n (len - at - 4) (omega (arith, leb-true (at + (4 + n)) len e))
     go false e = lt-leb n (len - at - 4) (omega (arith, leb-false (at + (4 + n)) len e))
 
--- ---- the first "no" about a stream
-module _ (b : Build) (ac : Bool) (slice n len : ℕ) where
-  pub stream-room : leb (b .at + (4 + n)) len ≡ false → firstNo (streamQuestions b ac slice n len) ≡ 6
-  unfolding streamQuestions firstNo
-  stream-room x = rw x
+-- ---- what the questions leave
+pub stream-yes : (b : Build) (ac : Bool) (slice n len : ℕ) → leb (b .at + (4 + n)) len ≡ true → n ≤ limitOf ac b → inTurn ac slice b ≡ true → firstNo (streamQuestions b ac slice n len) ≡ 0
+unfolding streamQuestions firstNo
+stream-yes b ac slice n len x y z = rw (x, le-leb n (limitOf ac b) y, z)
 
-  module _ (x : leb (b .at + (4 + n)) len ≡ true) where
-    pub stream-long : limitOf ac b < n → firstNo (streamQuestions b ac slice n len) ≡ 13
-    unfolding streamQuestions firstNo
-    stream-long y = rw (x, lt-leb n (limitOf ac b) y)
-
-    module _ (y : n ≤ limitOf ac b) where
-      pub stream-turn : inTurn ac slice b ≡ false → firstNo (streamQuestions b ac slice n len) ≡ 14
-      unfolding streamQuestions firstNo
-      stream-turn z = rw (x, le-leb n (limitOf ac b) y, z)
-
-      pub stream-yes : inTurn ac slice b ≡ true → firstNo (streamQuestions b ac slice n len) ≡ 0
-      unfolding streamQuestions firstNo
-      stream-yes z = rw (x, le-leb n (limitOf ac b) y, z)
-
--- what they leave
 pub record Puts (b : Build) (n len : ℕ) : Type 0 where
   pub room : b .at + (4 + n) ≤ len
   pub turn : b .next < b .slices
@@ -60,12 +44,13 @@ turn-slice ac slice b e = go (ltb slice (b .slices)) refl (same ac (b .acTurn)) 
     go true x true y true z = omega (arith, ltb-true slice (b .slices) x, eqb-true slice (b .next) z)
 
 pub puts : (b : Build) (ac : Bool) (slice n len : ℕ) → firstNo (streamQuestions b ac slice n len) ≡ 0 → Puts b n len
+unfolding streamQuestions firstNo
 puts b ac slice n len e = go (leb (b .at + (4 + n)) len) refl (leb n (limitOf ac b)) refl (inTurn ac slice b) refl
   where
     go : (p : Bool) → leb (b .at + (4 + n)) len ≡ p → (q : Bool) → leb n (limitOf ac b) ≡ q → (r : Bool) → inTurn ac slice b ≡ r → Puts b n len
-    go false x q y r z = absurd (let k = sym (stream-room b ac slice n len x) ∙ e in omega arith)
-    go true x false y r z = absurd (let k = sym (stream-long b ac slice n len x (leb-false n (limitOf ac b) y)) ∙ e in omega arith)
-    go true x true y false z = absurd (let k = sym (stream-turn b ac slice n len x (leb-true n (limitOf ac b) y) z) ∙ e in omega arith)
+    go false x q y r z = absurd (let k = rw x at e in omega arith)
+    go true x false y r z = absurd (let k = rw (x, y) at e in omega arith)
+    go true x true y false z = absurd (let k = rw (x, y, z) at e in omega arith)
     go true x true y true z = record { room = leb-true (b .at + (4 + n)) len x; turn = turn-slice ac slice b z }
 
 -- ---- the state behind a stream

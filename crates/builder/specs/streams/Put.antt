@@ -6,6 +6,7 @@ use lib.Dec.{leb, ltb, eqb}
 use lib.ListN.{length}
 use Rattle.bits.specs.Lay.{lay}
 use Rattle.ask.specs.Ask.{Answer, accepted, Question, ask, asked}
+use Rattle.ask.specs.Numbers.{noLimit, noTurn}
 use Rattle.builder.specs.Build.{Build, Built, roomQuestion, headerBytes, countByte}
 
 -- a stream after its 32-bit length, low byte first
@@ -55,7 +56,7 @@ afterStream b at =
 -- a stream of n bytes: questions 6, 13, 14
 unfoldable pub streamQuestions : Build → Bool → ℕ → ℕ → ℕ → List Question
 streamQuestions b ac slice n len =
-    roomQuestion len (b .at) (4 + n) ∷ ask (leb n (limitOf ac b)) 13 ∷ ask (inTurn ac slice b) 14 ∷ []
+    roomQuestion len (b .at) (4 + n) ∷ ask (leb n (limitOf ac b)) noLimit ∷ ask (inTurn ac slice b) noTurn ∷ []
 
 unfoldable pub streamOf : Build → Bool → ℕ → List ℕ → List ℕ → Answer Built
 streamOf b ac slice s out =

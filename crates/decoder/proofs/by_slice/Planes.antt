@@ -5,14 +5,14 @@ use mathlib.Core.List.{List, [], _∷_}
 use Prim.Native.Nat.{ℕ, zero, suc, _+_, _-_, _^_, _≤_, _<_}
 use native.Mathlib.Omega.{arith}
 use lib.ListN.{take}
-use Rattle.calls.specs.Arguments.{Settings, Plane, PerStream, Buffers}
+use Rattle.calls.specs.Arguments.{Settings, Plane, PerStream, Buffers, buffers, positions}
 use Rattle.calls.specs.ReadPlane.{BlockRead, PlaneRead, badPlane, planeRead, readPlane}
 use Rattle.calls.specs.Grid.{blocksOf}
 use Rattle.slice.specs.Plane.{reconstruct}
 use Rattle.slice.specs.Calls.{PlanesRead, badPlanes, planesRead, planeThen, byPlane, readPlanes}
 use Rattle.entropy.specs.declared.plane.Ends.{Ends}
 use Rattle.blockread.specs.On.{goodPlane}
-use Rattle.judge.specs.Good.{goodPlanes, buffers, positions}
+use Rattle.judge.specs.Good.{goodPlanes}
 use Rattle.decplane.specs.store.Storing.{blocksGot, PlaneGood, PlaneStored}
 use Rattle.decoder.specs.by_slice.SliceStoring.{RowsFit, AllFit}
 

@@ -4,12 +4,11 @@ use mathlib.Core.List.{List, [], _∷_}
 use Prim.Native.Nat.{ℕ, _+_, _-_, _^_, _≤_, _<_}
 use native.Mathlib.Omega.{arith}
 use lib.ListN.{take}
-use Rattle.calls.specs.Arguments.{Settings, Rows, Plane, planeAt, oneSlice, planesLent, planesOf, PerStream}
+use Rattle.calls.specs.Arguments.{Settings, Rows, Plane, planeAt, oneSlice, planesLent, planesOf, PerStream, buffers, positions}
 use Rattle.calls.specs.ReadPlane.{BlockRead}
 use Rattle.slice.specs.Plane.{reconstruct}
 use Rattle.slice.specs.Calls.{PlanesRead, badPlanes, planesRead, readPlanes, rowsMade, rowsOf}
 use Rattle.entropy.specs.declared.plane.Ends.{Ends}
-use Rattle.judge.specs.Good.{buffers, positions}
 use Rattle.decplane.specs.store.Storing.{blocksGot, PlaneGood, PlaneStored}
 use Rattle.decoder.specs.by_slice.SliceStoring.{planesGot, SliceGood, SliceStored}
 use Rattle.decoder.proofs.by_slice.Planes.{here, all, Going, plane-good, going-on, read-on, read-none}

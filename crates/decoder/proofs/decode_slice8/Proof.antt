@@ -1,8 +1,7 @@
 -- `decoder::decode_slice8`.
 use mathlib.Core.Path.{_≡_, refl}
 use native.Mathlib.Omega.{arith}
-use Rattle.calls.specs.Arguments.{eight}
-use Rattle.encoder.specs.by_slice.SliceCoding.{rows}
+use Rattle.calls.specs.Arguments.{eight, rows}
 use Rattle.judge.proofs.verdict.Slices.{Given}
 use Rattle.decoder.proofs.Slices.{may-store, slice-refused, slice-accepted}
 use Rattle.decoder.proofs.decode_slice8.Statement.{statement}

@@ -4,11 +4,11 @@ use mathlib.Core.Bool.{true}
 use mathlib.Core.List.{List, [], _∷_}
 use Prim.Native.Nat.{ℕ, _*_, _%_, _≤_}
 use lib.ListN.{length}
-use Rattle.calls.specs.Arguments.{Settings, Rows, Plane, oneSlice, planesLent, planesOf}
+use Rattle.calls.specs.Arguments.{Settings, Rows, Plane, oneSlice, planesLent, planesOf, buffers, positions}
 use Rattle.calls.specs.ReadPlane.{BlockRead}
 use Rattle.slice.specs.Calls.{PlanesRead, badPlanes, planesRead, readPlanes, rowsMade}
 use Rattle.entropy.specs.declared.plane.Ends.{Ends}
-use Rattle.judge.specs.Good.{goodPlanes, buffers, positions}
+use Rattle.judge.specs.Good.{goodPlanes}
 
 -- what the questions leave of a plane
 pub record RowsFit (p : Plane) : Type 0 where

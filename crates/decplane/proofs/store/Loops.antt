@@ -10,12 +10,11 @@ use lib.ListN.{length, getD, take, drop}
 use Rattle.bits.specs.Bits.{bytesFor}
 use Rattle.tables.specs.Zigzag.{zigzag}
 use Rattle.paint.specs.Paint.{sampleAt, storeBlock}
-use Rattle.calls.specs.Arguments.{Depth, Plane}
+use Rattle.calls.specs.Arguments.{Depth, Plane, settings}
 use Rattle.calls.specs.ReadPlane.{BlockRead, readPlane}
 use Rattle.calls.specs.Grid.{columnsOf, blocksOf}
 use Rattle.slice.specs.Plane.{blockSamples}
 use Rattle.entropy.specs.declared.plane.Ends.{Ends}
-use Rattle.encplane.specs.Coding.{settings}
 use Rattle.planes.proofs.Laws.{corner-fits}
 use Rattle.blockread.specs.On.{readOn, goodPlane, blockOf, Ready, NextBlock}
 use Rattle.blockread.specs.declared.Stand.{Stand}

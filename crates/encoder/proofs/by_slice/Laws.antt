@@ -11,12 +11,12 @@ use Rattle.calls.specs.Arguments.{Settings, Plane}
 use Rattle.calls.specs.Streams.{dcStream, acStream}
 use Rattle.calls.specs.Grid.{blocksOf}
 use Rattle.slice.specs.Plane.{coefficients}
-use Rattle.calls.specs.Questions.{roomForAll}
 use Rattle.slice.specs.Calls.{ownStreams}
 use Rattle.slice.proofs.Law.{dc-fits, ac-fits}
 use Rattle.entropy.specs.declared.plane.Ends.{Ends}
 use Rattle.encplane.specs.Coding.{PlaneOk, PlaneDone}
 use Rattle.encoder.specs.by_slice.SliceCoding.{RowsLeft, AllRowsLeft, PlanesOk, PlanesDone}
+use Rattle.slice.specs.Room.{roomForAll}
 
 -- ---- one plane behind a list of planes
 rows-last : (ps : List Plane) (p : Plane) → AllRowsLeft (ps ++ (p ∷ [])) → RowsLeft p

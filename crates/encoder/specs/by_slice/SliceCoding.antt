@@ -5,12 +5,9 @@ use Prim.Native.Nat.{ℕ, _+_, _*_, _%_, _≤_}
 use lib.ListN.{length}
 use Rattle.bits.specs.Lay.{lay}
 use Rattle.calls.specs.Arguments.{Settings, Rows, Plane, oneSlice, planesOf}
-use Rattle.calls.specs.Questions.{roomForAll}
 use Rattle.slice.specs.Calls.{ownStreams}
 use Rattle.entropy.specs.declared.plane.Ends.{Ends}
-
-abbrev pub rows : ℕ → List ℕ → Rows
-rows stride samples = record { stride = stride; samples = samples }
+use Rattle.slice.specs.Room.{roomForAll}
 
 -- what the questions leave of a plane's rows
 pub record RowsLeft (p : Plane) : Type 0 where

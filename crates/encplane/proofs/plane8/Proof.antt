@@ -6,10 +6,9 @@ use native.Mathlib.Omega.{arith}
 use lib.IntN.{ℤ}
 use lib.ListN.{length}
 use borrow.Author.Needs.{needs}
-use Rattle.calls.specs.Arguments.{eight}
+use Rattle.calls.specs.Arguments.{eight, plane}
 use Rattle.slice.specs.Plane.{blockCoefficients}
 use Rattle.bitwriter.proofs.Writer.{wrote-length}
-use Rattle.encplane.specs.Coding.{plane}
 use Rattle.planes.proofs.Laws.{corner-fits, part-is, part-long}
 use Rattle.encplane.proofs.Laws.{block-8}
 use Rattle.encplane.proofs.Loops.{Coding, Row, begun, room, coded, next-row, last-room, done}
@@ -76,7 +75,7 @@ fdct-quant-zig8-requires c κs =
     let k = c .before .before in
     let b = k .before .before .before .before .before in
     let s = start b in
-    (rw (part-is (s .args .rows .now) (k .corner .result)) (part-long (s .args .rows .now) (k .corner .result) (s .args .stride) (inside k)), (b .before .before .level8 .ensures .1, (omega (arith, s .pre .preset-le), b .before .encode-numbers .ensures)))
+    (rw (part-is (s .args .rows .now) (k .corner .result)) (part-long (s .args .rows .now) (k .corner .result) (s .args .stride) (inside k)), (b .before .before .level8 .ensures .1, record { preset = s .args .preset; preset-lt = omega (arith, s .pre .preset-le); numbers = b .before .encode-numbers .ensures }))
 
 -- the block's coefficients
 coefficients : (c : tie.After-fdct-quant-zig8 Inv-loop2 μ-loop2 Inv-loop μ-loop) →
@@ -88,7 +87,7 @@ coefficients c =
     let l = l2 .before .before in
     let b = l .before in
     let s = start b in
-    block-8 (s .args .place) (s .args .stride) (s .args .preset) (b .before .before .level8 .result) (k .corner .result) (s .args .rows .now) (l .loop .j) (l2 .loop2 .i) _ (b .before .before .level8 .ensures .0) (k .corner .ensures) (part-is (s .args .rows .now) (k .corner .result)) (c .fdct-quant-zig8 .ensures)
+    block-8 (s .args .place) (s .args .stride) (s .args .preset) (b .before .before .level8 .result) (k .corner .result) (s .args .rows .now) (l .loop .j) (l2 .loop2 .i) _ (b .before .before .level8 .ensures .0) (k .corner .ensures) (part-is (s .args .rows .now) (k .corner .result)) (c .fdct-quant-zig8 .ensures (s .args .preset) (omega (arith, s .pre .preset-le)) (b .before .encode-numbers .ensures))
 
 code-block-requires : tie.Need-code-block-requires Inv-loop2 μ-loop2 Inv-loop μ-loop
 code-block-requires c κs =

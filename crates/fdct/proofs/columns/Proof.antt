@@ -5,10 +5,10 @@ use Prim.Native.Nat.{_+_, _-_, _<_}
 use native.Mathlib.Omega.{arith}
 use lib.Dec.{lit≤}
 use mir.Facts.{toZ-ofZ}
-use Rattle.fdct.specs.column.Steps.{columnOf}
+use Rattle.fdct.specs.column.Steps.{forwardColumnOf}
 use Rattle.fdct.specs.declared.column.Lanes.{Lanes}
 use Rattle.fdct.proofs.column.Step.{enter8}
-use Rattle.fdct.specs.Forward.{columnAt, columnsAt, columnsOf}
+use Rattle.fdct.specs.Forward.{forwardColumnAt, columnsAt, forwardColumnsOf}
 use Rattle.fdct.proofs.Stripes.{Striped, striped-next, striped-done}
 use Rattle.fdct.proofs.Places.{column-place, first-bytes, first-in, place-fits, place-bytes, place-in, next-fits, less}
 use Rattle.fdct.proofs.columns.Statement.{statement}
@@ -38,19 +38,19 @@ loop-again c =
     let b = l .before .args .t1 in
     let j = l .loop .j in
     let t = c .struct-told8 .given in
-    let e : k .column .result ≡ columnAt shift b j = k .column .ensures ∙ enter8 (columnOf shift) (sfits-of (a1 .column-arg .given)) (sfits-of (a2 .column-arg2 .given)) (sfits-of (a3 .column-arg3 .given)) (sfits-of (a4 .column-arg4 .given)) (sfits-of (a5 .column-arg5 .given)) (sfits-of (a6 .column-arg6 .given)) (sfits-of (a7 .column-arg7 .given)) (sfits-of (a8 .column-arg8 .given)) in
+    let e : k .column .result ≡ forwardColumnAt shift b j = k .column .ensures ∙ enter8 (forwardColumnOf shift) (sfits-of (a1 .column-arg .given)) (sfits-of (a2 .column-arg2 .given)) (sfits-of (a3 .column-arg3 .given)) (sfits-of (a4 .column-arg4 .given)) (sfits-of (a5 .column-arg5 .given)) (sfits-of (a6 .column-arg6 .given)) (sfits-of (a7 .column-arg7 .given)) (sfits-of (a8 .column-arg8 .given)) in
     striped-next (columnsAt shift b) (l .loop .c) j (omega arith) (l .loop .inv)
-    (toZ-ofZ (sfits-of (t .0 .1)) ∙ ap (λ (v : Lanes). v .v0) e ∙ column-place (columnAt shift b) j 0 (j) (omega arith) (omega arith))
-    (toZ-ofZ (sfits-of (t .1 .0 .1)) ∙ ap (λ (v : Lanes). v .v1) e ∙ column-place (columnAt shift b) j 1 (j + 8) (omega arith) (omega arith))
-    (toZ-ofZ (sfits-of (t .1 .1 .0 .1)) ∙ ap (λ (v : Lanes). v .v2) e ∙ column-place (columnAt shift b) j 2 (j + 16) (omega arith) (omega arith))
-    (toZ-ofZ (sfits-of (t .1 .1 .1 .0 .1)) ∙ ap (λ (v : Lanes). v .v3) e ∙ column-place (columnAt shift b) j 3 (j + 24) (omega arith) (omega arith))
-    (toZ-ofZ (sfits-of (t .1 .1 .1 .1 .0 .1)) ∙ ap (λ (v : Lanes). v .v4) e ∙ column-place (columnAt shift b) j 4 (j + 32) (omega arith) (omega arith))
-    (toZ-ofZ (sfits-of (t .1 .1 .1 .1 .1 .0 .1)) ∙ ap (λ (v : Lanes). v .v5) e ∙ column-place (columnAt shift b) j 5 (j + 40) (omega arith) (omega arith))
-    (toZ-ofZ (sfits-of (t .1 .1 .1 .1 .1 .1 .0 .1)) ∙ ap (λ (v : Lanes). v .v6) e ∙ column-place (columnAt shift b) j 6 (j + 48) (omega arith) (omega arith))
-    (toZ-ofZ (sfits-of (t .1 .1 .1 .1 .1 .1 .1 .0 .1)) ∙ ap (λ (v : Lanes). v .v7) e ∙ column-place (columnAt shift b) j 7 (j + 56) (omega arith) (omega arith))
+    (toZ-ofZ (sfits-of (t .0 .1)) ∙ ap (λ (v : Lanes). v .v0) e ∙ column-place (forwardColumnAt shift b) j 0 (j) (omega arith) (omega arith))
+    (toZ-ofZ (sfits-of (t .1 .0 .1)) ∙ ap (λ (v : Lanes). v .v1) e ∙ column-place (forwardColumnAt shift b) j 1 (j + 8) (omega arith) (omega arith))
+    (toZ-ofZ (sfits-of (t .1 .1 .0 .1)) ∙ ap (λ (v : Lanes). v .v2) e ∙ column-place (forwardColumnAt shift b) j 2 (j + 16) (omega arith) (omega arith))
+    (toZ-ofZ (sfits-of (t .1 .1 .1 .0 .1)) ∙ ap (λ (v : Lanes). v .v3) e ∙ column-place (forwardColumnAt shift b) j 3 (j + 24) (omega arith) (omega arith))
+    (toZ-ofZ (sfits-of (t .1 .1 .1 .1 .0 .1)) ∙ ap (λ (v : Lanes). v .v4) e ∙ column-place (forwardColumnAt shift b) j 4 (j + 32) (omega arith) (omega arith))
+    (toZ-ofZ (sfits-of (t .1 .1 .1 .1 .1 .0 .1)) ∙ ap (λ (v : Lanes). v .v5) e ∙ column-place (forwardColumnAt shift b) j 5 (j + 40) (omega arith) (omega arith))
+    (toZ-ofZ (sfits-of (t .1 .1 .1 .1 .1 .1 .0 .1)) ∙ ap (λ (v : Lanes). v .v6) e ∙ column-place (forwardColumnAt shift b) j 6 (j + 48) (omega arith) (omega arith))
+    (toZ-ofZ (sfits-of (t .1 .1 .1 .1 .1 .1 .1 .0 .1)) ∙ ap (λ (v : Lanes). v .v7) e ∙ column-place (forwardColumnAt shift b) j 7 (j + 56) (omega arith) (omega arith))
 
 returns : tie.Need-returns Inv-loop μ-loop
-unfolding columnsOf
+unfolding forwardColumnsOf
 returns c =
     let l = c .before in
     striped-done (columnsAt (l .before .args .shift) (l .before .args .t1)) (l .loop .c) (l .loop .j) (omega arith) (l .loop .inv)

@@ -4,8 +4,8 @@ use mathlib.Core.Path.{_∙_, ap}
 use mathlib.Core.List.{List}
 use lib.IntN.{ℤ}
 use mir.Facts.{toZ-ofZ}
-use Rattle.frow.specs.Rows.{rowsOf}
-use Rattle.fdct.specs.Forward.{levelOf, columnsOf, transformOf}
+use Rattle.frow.specs.Rows.{forwardRowsOf}
+use Rattle.fdct.specs.Forward.{levelShiftOf, forwardColumnsOf, transformOf}
 use Rattle.fdct.proofs.fdct.Statement.{statement}
 use Rattle.fdct.proofs.fdct.Tie as tie
 
@@ -16,7 +16,7 @@ returns c =
     let l = k .before in
     let s = l .before in
     c .row-pass .ensures
-    ∙ ap rowsOf (k .columns .ensures ∙ ap (columnsOf (s .args .shift)) (l .level .ensures ∙ ap (λ (z : ℤ). levelOf z (s .args .block)) (toZ-ofZ (s .fits .add))))
+    ∙ ap forwardRowsOf (k .columns .ensures ∙ ap (forwardColumnsOf (s .args .shift)) (l .level .ensures ∙ ap (λ (z : ℤ). levelShiftOf z (s .args .block)) (toZ-ofZ (s .fits .add))))
 
 pub fdct-spec : {M : Type 1} → statement M
 fdct-spec = tie.close (tie.spec (λ c κs. tt) (λ c κs. search needs) (λ c κs. tt) returns)

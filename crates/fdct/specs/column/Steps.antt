@@ -1,16 +1,12 @@
 -- The forward transform's column pass: one column of eight lanes, the listed order of steps (dct.rs, fdct_quant_zig; AP-922 style).
 use Prim.Native.Nat.{ℕ, _+_}
 use lib.IntN.{ℤ, pos, negsuc}
+unfoldable pub use Rattle.scalar.specs.Named.{_▸_}
 use Rattle.scalar.specs.Scalar.{addsOf, subsOf, mulhiOf, sllOf, orOf}
 use Rattle.fdct.specs.declared.column.Lanes.{Lanes}
 use Rattle.fdct.specs.declared.column.Sides.{Sides}
 use Rattle.fdct.specs.declared.column.Evens.{Evens}
 use Rattle.fdct.specs.declared.column.Odds.{Odds}
-
--- x, under a name in what follows. It unfolds only where it is asked to, so that a value that is used twice is written once
-infixr 5 _▸_
-unfoldable pub _▸_ : {A B : Type 0} → A → (A → B) → B
-x ▸ f = f x
 
 -- FDCT_TAN1, FDCT_TAN2, FDCT_TAN3 (43790 as 16 bits, read as signed), FDCT_SQRT2, FDCT_ROUND1 of tables.rs
 abbrev pub tan1 : ℤ
@@ -48,8 +44,8 @@ butterflyOf x0 x1 x2 x3 x4 x5 x6 x7 =
     record { tp03 = tp03; tp12 = tp12; tm03 = tm03; tm12 = tm12; d0 = d0; d1 = d1; d2 = d2; d3 = d3 }
 
 -- rows 0, 2, 4 and 6
-unfoldable pub evenOf : ℕ → ℤ → ℤ → ℤ → ℤ → Evens
-evenOf shift tp03 tp12 tm03 tm12 =
+unfoldable pub forwardEvenOf : ℕ → ℤ → ℤ → ℤ → ℤ → Evens
+forwardEvenOf shift tp03 tp12 tm03 tm12 =
     sllOf tp03 shift ▸ λ p03.
     sllOf tp12 shift ▸ λ p12.
     sllOf tm03 shift ▸ λ m03.
@@ -66,8 +62,8 @@ evenOf shift tp03 tp12 tm03 tm12 =
     record { c0 = c0; c2 = c2; c4 = c4; c6 = c6 }
 
 -- rows 1, 3, 5 and 7
-unfoldable pub oddOf : ℕ → ℤ → ℤ → ℤ → ℤ → Odds
-oddOf shift d0 d1 d2 d3 =
+unfoldable pub forwardOddOf : ℕ → ℤ → ℤ → ℤ → ℤ → Odds
+forwardOddOf shift d0 d1 d2 d3 =
     sllOf d2 (shift + 1) ▸ λ x2.
     sllOf d1 (shift + 1) ▸ λ x1.
     sllOf d3 shift ▸ λ x3.
@@ -95,9 +91,9 @@ oddOf shift d0 d1 d2 d3 =
     record { c1 = c1; c3 = c3; c5 = c5; c7 = c7 }
 
 -- the column pass of one column
-unfoldable pub columnOf : ℕ → ℤ → ℤ → ℤ → ℤ → ℤ → ℤ → ℤ → ℤ → Lanes
-columnOf shift x0 x1 x2 x3 x4 x5 x6 x7 =
+unfoldable pub forwardColumnOf : ℕ → ℤ → ℤ → ℤ → ℤ → ℤ → ℤ → ℤ → ℤ → Lanes
+forwardColumnOf shift x0 x1 x2 x3 x4 x5 x6 x7 =
     butterflyOf x0 x1 x2 x3 x4 x5 x6 x7 ▸ λ b.
-    evenOf shift (b .tp03) (b .tp12) (b .tm03) (b .tm12) ▸ λ e.
-    oddOf shift (b .d0) (b .d1) (b .d2) (b .d3) ▸ λ o.
+    forwardEvenOf shift (b .tp03) (b .tp12) (b .tm03) (b .tm12) ▸ λ e.
+    forwardOddOf shift (b .d0) (b .d1) (b .d2) (b .d3) ▸ λ o.
     record { v0 = e .c0; v1 = o .c1; v2 = e .c2; v3 = o .c3; v4 = e .c4; v5 = o .c5; v6 = e .c6; v7 = o .c7 }

@@ -10,5 +10,5 @@ use Rattle.frow.specs.order.Sides.{at}
 abbrev pub levelAt : ℤ → List ℤ → ℕ → ℤ
 levelAt add b i = addsOf (at b i) add
 
-unfoldable pub levelOf : ℤ → List ℤ → List ℤ
-levelOf add b = tab 64 (levelAt add b)
+unfoldable pub levelShiftOf : ℤ → List ℤ → List ℤ
+levelShiftOf add b = tab 64 (levelAt add b)

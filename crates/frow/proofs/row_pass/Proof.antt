@@ -1,4 +1,4 @@
--- `frow::row_pass` is `rowsOf`: the constant tables are the parts of FTAB1 to FTAB4, and the steps' results join by `row-law`. Assumes nothing.
+-- `frow::row_pass` is `forwardRowsOf`: the constant tables are the parts of FTAB1 to FTAB4, and the steps' results join by `row-law`. Assumes nothing.
 use borrow.Author.Needs.{needs}
 use Rattle.scalar.specs.Tab.{tabFrom}
 use Rattle.frow.specs.Rows.{ftab1, ftab2, ftab3, ftab4, tableAt}

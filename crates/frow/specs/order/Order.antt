@@ -13,8 +13,8 @@ use Rattle.frow.specs.order.Sides.{at}
 abbrev pub mirrorAt : List ℤ → ℕ → ℤ
 mirrorAt c i = at c (8 * (i / 8) + (7 - i % 8))
 
-unfoldable pub mirrorOf : List ℤ → List ℤ
-mirrorOf c = tab 64 (mirrorAt c)
+unfoldable pub forwardMirrorOf : List ℤ → List ℤ
+forwardMirrorOf c = tab 64 (mirrorAt c)
 
 -- sums and differences, lane by lane
 abbrev pub sumAt : List ℤ → List ℤ → ℕ → ℤ
@@ -33,26 +33,26 @@ diffsOf c z = tab 64 (diffAt c z)
 abbrev pub spreadAt : List ℤ → ℕ → ℕ → ℤ
 spreadAt a from i = at a (8 * (i / 8) + (i + from) % 4)
 
-unfoldable pub spreadOf : List ℤ → ℕ → List ℤ
-spreadOf a from = tab 64 (spreadAt a from)
+unfoldable pub forwardSpreadOf : List ℤ → ℕ → List ℤ
+forwardSpreadOf a from = tab 64 (spreadAt a from)
 
 -- products of neighbours, added in pairs
 abbrev pub pairAt : List ℤ → List ℤ → ℕ → ℤ
 pairAt x t i = maddOf (at x (2 * i)) (at t (2 * i)) (at x (2 * i + 1)) (at t (2 * i + 1))
 
-unfoldable pub pairsOf : List ℤ → List ℤ → List ℤ
-pairsOf x t = tab 32 (pairAt x t)
+unfoldable pub forwardPairsOf : List ℤ → List ℤ → List ℤ
+forwardPairsOf x t = tab 32 (pairAt x t)
 
 -- the same for each two pairs of a block
-abbrev pub tailAt : List ℤ → List ℤ → ℕ → ℤ
-tailAt m n i = tailOf (at m i) (at n i)
+abbrev pub pairTailAt : List ℤ → List ℤ → ℕ → ℤ
+pairTailAt m n i = tailOf (at m i) (at n i)
 
-unfoldable pub halfOf : List ℤ → List ℤ → List ℤ
-halfOf m n = tab 32 (tailAt m n)
+unfoldable pub forwardHalfOf : List ℤ → List ℤ → List ℤ
+forwardHalfOf m n = tab 32 (pairTailAt m n)
 
 -- coefficients of two lists in turn
 abbrev pub joinAt : List ℤ → List ℤ → ℕ → ℤ
 joinAt even odd i = sel (eqb (i % 2) 0) (at even (i / 2)) (at odd (i / 2))
 
-unfoldable pub joinOf : List ℤ → List ℤ → List ℤ
-joinOf even odd = tab 64 (joinAt even odd)
+unfoldable pub forwardJoinOf : List ℤ → List ℤ → List ℤ
+forwardJoinOf even odd = tab 64 (joinAt even odd)

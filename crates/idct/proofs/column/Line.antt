@@ -6,7 +6,7 @@ use mir.Syntax.{w16}
 use mir.Val.{SFits}
 use mir.Facts.{toZ-ofZ}
 use Rattle.scalar.proofs.Laws.{back}
-use Rattle.idct.specs.column.Steps.{_▸_, oddOf, evenOf, joinOf, columnOf}
+use Rattle.idct.specs.column.Steps.{_▸_, inverseOddOf, inverseEvenOf, inverseJoinOf, inverseColumnOf}
 use Rattle.idct.specs.declared.column.Four.{Four}
 use Rattle.idct.specs.declared.column.Eight.{Eight}
 
@@ -26,7 +26,7 @@ pub eight : {a b c d e f g h p q r s t u v w : ℤ} → a ≡ p → b ≡ q → 
 eight i j k l m n o x = rw (i, j, k, l, m, n, o, x) refl
 
 -- the two stages, joined
-pub joined : (round corr : ℤ) (shift : ℕ) (level x0 x1 x2 x3 x4 x5 x6 x7 : ℤ) {o e : Four} → o ≡ oddOf x1 x3 x5 x7 → e ≡ evenOf round corr x0 x2 x4 x6
-    → joinOf shift level o e ≡ columnOf round corr shift level x0 x1 x2 x3 x4 x5 x6 x7
-unfolding columnOf
+pub joined : (round corr : ℤ) (shift : ℕ) (level x0 x1 x2 x3 x4 x5 x6 x7 : ℤ) {o e : Four} → o ≡ inverseOddOf x1 x3 x5 x7 → e ≡ inverseEvenOf round corr x0 x2 x4 x6
+    → inverseJoinOf shift level o e ≡ inverseColumnOf round corr shift level x0 x1 x2 x3 x4 x5 x6 x7
+unfolding inverseColumnOf
 joined round corr shift level x0 x1 x2 x3 x4 x5 x6 x7 p q = rw (p, q) refl

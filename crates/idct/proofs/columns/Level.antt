@@ -13,8 +13,8 @@ use Rattle.scalar.proofs.Laws.{sat-fits, shr-fits}
 use Rattle.scalar.proofs.Fill.{getD-tab, tab-ext}
 use Rattle.irow.specs.RowPass.{lane}
 use Rattle.idct.specs.declared.column.Four.{Four}
-use Rattle.idct.specs.column.Steps.{oddOf, evenOf, sumOf, diffOf, joinOf, columnOf}
-use Rattle.idct.specs.columns.Columns.{eightAt, columnAt, columnsOf, levelOf}
+use Rattle.idct.specs.column.Steps.{inverseOddOf, inverseEvenOf, inverseSumOf, inverseDiffOf, inverseJoinOf, inverseColumnOf}
+use Rattle.idct.specs.columns.Columns.{eightAt, inverseColumnAt, inverseColumnsOf, levelAddedOf}
 
 add-zero : (z : ℤ) → SFits w16 z → addsOf z (pos 0) ≡ z
 unfolding addsOf
@@ -32,16 +32,16 @@ subs-fits : (a b : ℤ) → SFits w16 (subsOf a b)
 unfolding subsOf
 subs-fits a b = sat-fits (a -ℤ b)
 
-sum-level : (shift : ℕ) (level a b : ℤ) → addsOf (sumOf shift (pos 0) a b) level ≡ sumOf shift level a b
-unfolding sumOf
+sum-level : (shift : ℕ) (level a b : ℤ) → addsOf (inverseSumOf shift (pos 0) a b) level ≡ inverseSumOf shift level a b
+unfolding inverseSumOf
 sum-level shift level a b = ap (λ (z : ℤ). addsOf z level) (add-zero (sraOf (addsOf a b) shift) (shift-fits (addsOf a b) shift (adds-fits a b)))
 
-diff-level : (shift : ℕ) (level a b : ℤ) → addsOf (diffOf shift (pos 0) a b) level ≡ diffOf shift level a b
-unfolding diffOf
+diff-level : (shift : ℕ) (level a b : ℤ) → addsOf (inverseDiffOf shift (pos 0) a b) level ≡ inverseDiffOf shift level a b
+unfolding inverseDiffOf
 diff-level shift level a b = ap (λ (z : ℤ). addsOf z level) (add-zero (sraOf (subsOf a b) shift) (shift-fits (subsOf a b) shift (subs-fits a b)))
 
-join-level : (shift : ℕ) (level : ℤ) (o e : Four) (k : ℕ) → k < 8 → addsOf (eightAt (joinOf shift (pos 0) o e) k) level ≡ eightAt (joinOf shift level o e) k
-unfolding joinOf
+join-level : (shift : ℕ) (level : ℤ) (o e : Four) (k : ℕ) → k < 8 → addsOf (eightAt (inverseJoinOf shift (pos 0) o e) k) level ≡ eightAt (inverseJoinOf shift level o e) k
+unfolding inverseJoinOf
 join-level shift level o e zero h = sum-level shift level (o .h0) (e .h0)
 join-level shift level o e (suc zero) h = sum-level shift level (e .h1) (o .h1)
 join-level shift level o e (suc (suc zero)) h = sum-level shift level (e .h2) (o .h2)
@@ -53,14 +53,14 @@ join-level shift level o e (suc (suc (suc (suc (suc (suc (suc zero))))))) h = di
 join-level shift level o e (suc (suc (suc (suc (suc (suc (suc (suc k)))))))) h = absurd (omega arith)
 
 module _ (round corr : ℤ) (shift : ℕ) (level : ℤ) (w : List ℤ) where
-  column-level : (j k : ℕ) → k < 8 → addsOf (eightAt (columnAt round corr shift (pos 0) w j) k) level ≡ eightAt (columnAt round corr shift level w j) k
-  unfolding columnAt columnOf
+  column-level : (j k : ℕ) → k < 8 → addsOf (eightAt (inverseColumnAt round corr shift (pos 0) w j) k) level ≡ eightAt (inverseColumnAt round corr shift level w j) k
+  unfolding inverseColumnAt inverseColumnOf
   column-level j k h = join-level shift level _ _ k h
 
-  pub columns-level : levelOf level (columnsOf round corr shift (pos 0) w) ≡ columnsOf round corr shift level w
-  unfolding levelOf columnsOf
+  pub columns-level : levelAddedOf level (inverseColumnsOf round corr shift (pos 0) w) ≡ inverseColumnsOf round corr shift level w
+  unfolding levelAddedOf inverseColumnsOf
   columns-level =
       tab-ext 64
       (λ i h.
-      ap (λ (z : ℤ). addsOf z level) (getD-tab 64 (λ i. eightAt (columnAt round corr shift (pos 0) w (i % 8)) (i / 8)) i (pos 0) h)
+      ap (λ (z : ℤ). addsOf z level) (getD-tab 64 (λ i. eightAt (inverseColumnAt round corr shift (pos 0) w (i % 8)) (i / 8)) i (pos 0) h)
       ∙ column-level (i % 8) (i / 8) (omega arith))

@@ -11,10 +11,10 @@ use Rattle.scalar.specs.Tab.{tab}
 use Rattle.scalar.proofs.Fill.{getD-tab, tab-ext}
 use Rattle.scalar.proofs.InRows.{row-of, col-of}
 use Rattle.irow.specs.RowPass.{lane}
-use Rattle.irow.specs.Stages.{mirrorPlace, mirrorOf}
-use Rattle.idct.specs.column.Steps.{columnOf}
+use Rattle.irow.specs.Stages.{mirrorPlace, inverseMirrorOf}
+use Rattle.idct.specs.column.Steps.{inverseColumnOf}
 use Rattle.idct.specs.declared.column.Eight.{Eight}
-use Rattle.idct.specs.columns.Columns.{eightAt, columnAt, columnsOf}
+use Rattle.idct.specs.columns.Columns.{eightAt, inverseColumnAt, inverseColumnsOf}
 
 mirror-lt : (k : ℕ) → k < 8 → mirrorPlace k < 8
 mirror-lt k h = go (ltb k 4) refl
@@ -34,8 +34,8 @@ mirror-twice k h = go (ltb k 4) refl
         rw (le-ltb (11 - k) 4 c) (omega arith)
 
 -- number j of row r of mirrored rows
-mirror-at : (w : List ℤ) (j r p q : ℕ) → j < 8 → r < 8 → p ≡ j + 8 * r → q ≡ mirrorPlace j + 8 * r → lane (mirrorOf w) p ≡ lane w q
-unfolding mirrorOf
+mirror-at : (w : List ℤ) (j r p q : ℕ) → j < 8 → r < 8 → p ≡ j + 8 * r → q ≡ mirrorPlace j + 8 * r → lane (inverseMirrorOf w) p ≡ lane w q
+unfolding inverseMirrorOf
 mirror-at w j r p q hj hr ep eq =
     let a : p / 8 ≡ r = omega arith in
     let b : p % 8 ≡ j = omega arith in
@@ -48,12 +48,12 @@ same g e0 e1 e2 e3 e4 e5 e6 e7 = rw (e0, e1, e2, e3, e4, e5, e6, e7) refl
 
 module _ (round corr : ℤ) (shift : ℕ) (level : ℤ) (w : List ℤ) where
   abbrev at : List ℤ → ℕ → Eight
-  at l j = columnAt round corr shift level l j
+  at l j = inverseColumnAt round corr shift level l j
 
-  column-mirror : (j m : ℕ) → j < 8 → mirrorPlace j ≡ m → at (mirrorOf w) j ≡ at w m
-  unfolding columnAt
+  column-mirror : (j m : ℕ) → j < 8 → mirrorPlace j ≡ m → at (inverseMirrorOf w) j ≡ at w m
+  unfolding inverseColumnAt
   column-mirror j m h e =
-      same (columnOf round corr shift level)
+      same (inverseColumnOf round corr shift level)
       (mirror-at w j 0 j m h (omega arith) (omega arith) (omega (arith, e)))
       (mirror-at w j 1 (j + 8) (m + 8) h (omega arith) (omega arith) (omega (arith, e)))
       (mirror-at w j 2 (j + 16) (m + 16) h (omega arith) (omega arith) (omega (arith, e)))
@@ -63,23 +63,23 @@ module _ (round corr : ℤ) (shift : ℕ) (level : ℤ) (w : List ℤ) where
       (mirror-at w j 6 (j + 48) (m + 48) h (omega arith) (omega arith) (omega (arith, e)))
       (mirror-at w j 7 (j + 56) (m + 56) h (omega arith) (omega arith) (omega (arith, e)))
 
-  columns-at : (l : List ℤ) (r k : ℕ) → r < 8 → k < 8 → lane (columnsOf round corr shift level l) (8 * r + k) ≡ eightAt (at l k) r
-  unfolding columnsOf
+  columns-at : (l : List ℤ) (r k : ℕ) → r < 8 → k < 8 → lane (inverseColumnsOf round corr shift level l) (8 * r + k) ≡ eightAt (at l k) r
+  unfolding inverseColumnsOf
   columns-at l r k hr hk =
       getD-tab 64 (λ i. eightAt (at l (i % 8)) (i / 8)) (8 * r + k) (pos 0) (omega arith) ∙ rw (row-of r k hk, col-of r k hk) refl
 
-  back-at : (r k : ℕ) → r < 8 → k < 8 → lane (columnsOf round corr shift level (mirrorOf w)) (8 * r + mirrorPlace k) ≡ eightAt (at w k) r
+  back-at : (r k : ℕ) → r < 8 → k < 8 → lane (inverseColumnsOf round corr shift level (inverseMirrorOf w)) (8 * r + mirrorPlace k) ≡ eightAt (at w k) r
   back-at r k hr hk =
-      columns-at (mirrorOf w) r (mirrorPlace k) hr (mirror-lt k hk)
+      columns-at (inverseMirrorOf w) r (mirrorPlace k) hr (mirror-lt k hk)
       ∙ ap (λ (v : Eight). eightAt v r) (column-mirror (mirrorPlace k) k (mirror-lt k hk) (mirror-twice k hk))
 
-  mirrored : mirrorOf (columnsOf round corr shift level (mirrorOf w)) ≡ tab 64 (λ i. eightAt (at w (i % 8)) (i / 8))
-  unfolding mirrorOf
+  mirrored : inverseMirrorOf (inverseColumnsOf round corr shift level (inverseMirrorOf w)) ≡ tab 64 (λ i. eightAt (at w (i % 8)) (i / 8))
+  unfolding inverseMirrorOf
   mirrored = tab-ext 64 (λ i h. back-at (i / 8) (i % 8) (omega arith) (omega arith))
 
-  whole : tab 64 (λ i. eightAt (at w (i % 8)) (i / 8)) ≡ columnsOf round corr shift level w
-  unfolding columnsOf
+  whole : tab 64 (λ i. eightAt (at w (i % 8)) (i / 8)) ≡ inverseColumnsOf round corr shift level w
+  unfolding inverseColumnsOf
   whole = refl
 
-  pub columns-mirror : mirrorOf (columnsOf round corr shift level (mirrorOf w)) ≡ columnsOf round corr shift level w
+  pub columns-mirror : inverseMirrorOf (inverseColumnsOf round corr shift level (inverseMirrorOf w)) ≡ inverseColumnsOf round corr shift level w
   columns-mirror = mirrored ∙ whole

@@ -13,7 +13,7 @@ use borrow.Author.Tests.{lt-ltb, le-ltb}
 use Rattle.scalar.proofs.Fill.{Filled}
 use Rattle.scalar.proofs.InRows.{InRow, row-of, col-of, row-begins, row-next, row-ends, rows-done}
 use Rattle.irow.specs.RowPass.{lane}
-use Rattle.irow.specs.Stages.{mirrorPlace, mirrorOf}
+use Rattle.irow.specs.Stages.{mirrorPlace, inverseMirrorOf}
 use Rattle.idct.proofs.mirror.Statement.{statement}
 use Rattle.idct.proofs.mirror.Tie as tie
 
@@ -68,7 +68,7 @@ loop-again c =
     row-ends (at (l .before .args .t1)) (j .loop2 .x) (l .loop .r) (j .loop2 .k) (c .loop2-test .left) (j .loop2 .inv)
 
 returns : tie.Need-returns Inv-loop2 μ-loop2 Inv-loop μ-loop
-unfolding mirrorOf
+unfolding inverseMirrorOf
 returns c =
     let l = c .before in
     rows-done (at (l .before .args .t1)) (l .loop .x) (l .loop .r) (c .loop-test .left) (l .loop .inv)

@@ -1,14 +1,10 @@
 -- One column of the inverse transform. Document 01: "The column passes are the listed order of steps (AP-922 style)."
 use Prim.Native.Nat.{ℕ}
 use lib.IntN.{ℤ, pos, negsuc}
+unfoldable pub use Rattle.scalar.specs.Named.{_▸_}
 use Rattle.scalar.specs.Scalar.{addsOf, subsOf, mulhiOf, orOf, sraOf}
 use Rattle.idct.specs.declared.column.Four.{Four}
 use Rattle.idct.specs.declared.column.Eight.{Eight}
-
--- x, under a name in what follows. It is shut, so that a number that is used twice is written once
-infixr 5 _▸_
-unfoldable pub _▸_ : {A : Type 0} → ℤ → (ℤ → A) → A
-x ▸ f = f x
 
 -- TG_1_16, TG_2_16, TG_3_16, COS_4_16 of tables.rs
 abbrev pub tg1 : ℤ
@@ -24,8 +20,8 @@ abbrev pub cos4 : ℤ
 cos4 = negsuc 19194
 
 -- the steps on rows 1, 3, 5 and 7
-unfoldable pub oddOf : ℤ → ℤ → ℤ → ℤ → Four
-oddOf x1 x3 x5 x7 =
+unfoldable pub inverseOddOf : ℤ → ℤ → ℤ → ℤ → Four
+inverseOddOf x1 x3 x5 x7 =
     mulhiOf x5 tg3 ▸ λ m5.
     mulhiOf tg3 x3 ▸ λ m3.
     mulhiOf x7 tg1 ▸ λ m7.
@@ -53,8 +49,8 @@ oddOf x1 x3 x5 x7 =
     record { h0 = o0; h1 = o1; h2 = o2; h3 = o3 }
 
 -- the steps on rows 0, 2, 4 and 6; the sums are rounded by `round`, the differences by `corr`
-unfoldable pub evenOf : ℤ → ℤ → ℤ → ℤ → ℤ → ℤ → Four
-evenOf round corr x0 x2 x4 x6 =
+unfoldable pub inverseEvenOf : ℤ → ℤ → ℤ → ℤ → ℤ → ℤ → Four
+inverseEvenOf round corr x0 x2 x4 x6 =
     mulhiOf x6 tg2 ▸ λ m6.
     mulhiOf tg2 x2 ▸ λ m2.
     addsOf m6 x2 ▸ λ s26.
@@ -72,27 +68,27 @@ evenOf round corr x0 x2 x4 x6 =
     record { h0 = e0; h1 = e1; h2 = e2; h3 = e3 }
 
 -- a sum or a difference of the two stages, shifted, and the level added
-unfoldable pub sumOf : ℕ → ℤ → ℤ → ℤ → ℤ
-sumOf shift level a b = addsOf (sraOf (addsOf a b) shift) level
+unfoldable pub inverseSumOf : ℕ → ℤ → ℤ → ℤ → ℤ
+inverseSumOf shift level a b = addsOf (sraOf (addsOf a b) shift) level
 
-unfoldable pub diffOf : ℕ → ℤ → ℤ → ℤ → ℤ
-diffOf shift level a b = addsOf (sraOf (subsOf a b) shift) level
+unfoldable pub inverseDiffOf : ℕ → ℤ → ℤ → ℤ → ℤ
+inverseDiffOf shift level a b = addsOf (sraOf (subsOf a b) shift) level
 
 -- both stages joined: the upper half are sums, the lower half differences
-unfoldable pub joinOf : ℕ → ℤ → Four → Four → Eight
-joinOf shift level o e =
+unfoldable pub inverseJoinOf : ℕ → ℤ → Four → Four → Eight
+inverseJoinOf shift level o e =
     record {
-      y0 = sumOf shift level (o .h0) (e .h0);
-      y1 = sumOf shift level (e .h1) (o .h1);
-      y2 = sumOf shift level (e .h2) (o .h2);
-      y3 = sumOf shift level (o .h3) (e .h3);
-      y4 = diffOf shift level (e .h3) (o .h3);
-      y5 = diffOf shift level (e .h2) (o .h2);
-      y6 = diffOf shift level (e .h1) (o .h1);
-      y7 = diffOf shift level (e .h0) (o .h0);
+      y0 = inverseSumOf shift level (o .h0) (e .h0);
+      y1 = inverseSumOf shift level (e .h1) (o .h1);
+      y2 = inverseSumOf shift level (e .h2) (o .h2);
+      y3 = inverseSumOf shift level (o .h3) (e .h3);
+      y4 = inverseDiffOf shift level (e .h3) (o .h3);
+      y5 = inverseDiffOf shift level (e .h2) (o .h2);
+      y6 = inverseDiffOf shift level (e .h1) (o .h1);
+      y7 = inverseDiffOf shift level (e .h0) (o .h0);
     }
 
 -- the column of x0 to x7, level added, not clamped
-unfoldable pub columnOf : ℤ → ℤ → ℕ → ℤ → ℤ → ℤ → ℤ → ℤ → ℤ → ℤ → ℤ → ℤ → Eight
-columnOf round corr shift level x0 x1 x2 x3 x4 x5 x6 x7 =
-    joinOf shift level (oddOf x1 x3 x5 x7) (evenOf round corr x0 x2 x4 x6)
+unfoldable pub inverseColumnOf : ℤ → ℤ → ℕ → ℤ → ℤ → ℤ → ℤ → ℤ → ℤ → ℤ → ℤ → ℤ → Eight
+inverseColumnOf round corr shift level x0 x1 x2 x3 x4 x5 x6 x7 =
+    inverseJoinOf shift level (inverseOddOf x1 x3 x5 x7) (inverseEvenOf round corr x0 x2 x4 x6)

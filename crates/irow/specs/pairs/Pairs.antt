@@ -11,16 +11,16 @@ abbrev pub spreadPlace : ℕ → ℕ → ℕ
 spreadPlace from k = (from + 4 * (k % 4 / 2)) % 8 + k % 2
 
 -- of each row, these two pairs in turn, twice
-unfoldable pub spreadOf : List ℤ → ℕ → List ℤ
-spreadOf a from = tab 64 (λ i. lane a (8 * (i / 8) + spreadPlace from (i % 8)))
+unfoldable pub inverseSpreadOf : List ℤ → ℕ → List ℤ
+inverseSpreadOf a from = tab 64 (λ i. lane a (8 * (i / 8) + spreadPlace from (i % 8)))
 
 -- neighbours multiplied and added; the table's numbers are those from `from` on
-unfoldable pub pairsOf : List ℤ → List ℤ → ℕ → List ℤ
-pairsOf x t from = tab 32 (λ i. maddOf (lane x (2 * i + 1)) (lane t (from + (2 * i + 1))) (lane x (2 * i)) (lane t (from + 2 * i)))
+unfoldable pub inversePairsOf : List ℤ → List ℤ → ℕ → List ℤ
+inversePairsOf x t from = tab 32 (λ i. maddOf (lane x (2 * i + 1)) (lane t (from + (2 * i + 1))) (lane x (2 * i)) (lane t (from + 2 * i)))
 
 -- both pairs of products of the even numbers, and of the odd ones
 abbrev pub evensOf : List ℤ → List ℤ → Two
-evensOf b t = record { near = pairsOf (spreadOf b 0) t 0; far = pairsOf (spreadOf b 4) t 64 }
+evensOf b t = record { near = inversePairsOf (inverseSpreadOf b 0) t 0; far = inversePairsOf (inverseSpreadOf b 4) t 64 }
 
 abbrev pub oddsOf : List ℤ → List ℤ → Two
-oddsOf b t = record { near = pairsOf (spreadOf b 2) t 128; far = pairsOf (spreadOf b 6) t 192 }
+oddsOf b t = record { near = inversePairsOf (inverseSpreadOf b 2) t 128; far = inversePairsOf (inverseSpreadOf b 6) t 192 }

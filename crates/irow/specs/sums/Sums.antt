@@ -8,8 +8,8 @@ use Rattle.scalar.specs.Scalar.{sat16, sraOf, add32Of, sub32Of}
 use Rattle.scalar.specs.Tab.{tab, lane}
 
 -- the even products a and b, rounded
-unfoldable pub evenOf : ℤ → ℤ → ℤ → ℤ
-evenOf round a b = add32Of (add32Of a round) b
+unfoldable pub evenPartOf : ℤ → ℤ → ℤ → ℤ
+evenPartOf round a b = add32Of (add32Of a round) b
 
 -- the odd ones added in the left half, subtracted in the right
 abbrev pub joinedOf : Bool → ℤ → ℤ → ℤ
@@ -17,11 +17,11 @@ joinedOf false e o = add32Of e o
 joinedOf true e o = sub32Of e o
 
 -- a number of a half, from its even products a and b and its odd ones c and d
-unfoldable pub laneOf : Bool → ℤ → ℕ → ℤ → ℤ → ℤ → ℤ → ℤ
-laneOf right round shift a b c d = sat16 (sraOf (joinedOf right (evenOf round a b) (add32Of c d)) shift)
+unfoldable pub inverseLaneOf : Bool → ℤ → ℕ → ℤ → ℤ → ℤ → ℤ → ℤ
+inverseLaneOf right round shift a b c d = sat16 (sraOf (joinedOf right (evenPartOf round a b) (add32Of c d)) shift)
 
-unfoldable pub halfOf : Bool → ℤ → ℕ → List ℤ → List ℤ → List ℤ → List ℤ → List ℤ
-halfOf right round shift m0 m1 m2 m3 = tab 32 (λ i. laneOf right round shift (lane m0 i) (lane m1 i) (lane m2 i) (lane m3 i))
+unfoldable pub inverseHalfOf : Bool → ℤ → ℕ → List ℤ → List ℤ → List ℤ → List ℤ → List ℤ
+inverseHalfOf right round shift m0 m1 m2 m3 = tab 32 (λ i. inverseLaneOf right round shift (lane m0 i) (lane m1 i) (lane m2 i) (lane m3 i))
 
 -- the halves of each row side by side
 abbrev pub pickZ : Bool → ℤ → ℤ → ℤ
@@ -33,4 +33,4 @@ sideOf lo hi = tab 64 (λ i. pickZ (ltb (i % 8) 4) (lane lo (4 * (i / 8) + i % 8
 
 -- the rows, both halves of each
 abbrev pub rowsFrom : ℤ → ℕ → List ℤ → List ℤ → List ℤ → List ℤ → List ℤ
-rowsFrom round shift m0 m1 m2 m3 = sideOf (halfOf false round shift m0 m1 m2 m3) (halfOf true round shift m0 m1 m2 m3)
+rowsFrom round shift m0 m1 m2 m3 = sideOf (inverseHalfOf false round shift m0 m1 m2 m3) (inverseHalfOf true round shift m0 m1 m2 m3)

@@ -5,10 +5,11 @@ use mathlib.Core.List.{List, [], _∷_}
 use Prim.Native.Nat.{ℕ}
 use lib.ListN.{take}
 use borrow.Author.Needs.{needs}
-use Rattle.judge.specs.Good.{buffers, positions, dcPlane, acPlane, goodInTurn}
+use Rattle.judge.specs.Good.{dcPlane, acPlane, goodInTurn}
 use Rattle.judge.proofs.Planes.{planes-good, both-streams, dc-bad}
 use Rattle.judge.proofs.slice.Statement.{statement}
 use Rattle.judge.proofs.slice.Tie as tie
+use Rattle.calls.specs.Arguments.{buffers, positions}
 
 dc-good-requires : tie.Need-dc-good-requires
 dc-good-requires c κs = search needs

@@ -5,10 +5,10 @@ use mathlib.Core.List.{List, [], _∷_}
 use Prim.Native.Nat.{ℕ, zero, suc, _≤_, _<_}
 use native.Mathlib.Omega.{arith}
 use Rattle.ask.specs.Ask.{firstNo}
-use Rattle.calls.specs.Arguments.{Call, settingsOf, planesLent, planesOf, PerStream, Buffers}
+use Rattle.calls.specs.Arguments.{Call, settingsOf, planesLent, planesOf, PerStream, Buffers, lengthsOf}
 use Rattle.calls.specs.ReadPlane.{BlockRead}
 use Rattle.calls.specs.Questions.{readingQuestions}
-use Rattle.slice.specs.Calls.{lengthsOf, PlanesRead, badPlanes, planesRead, readPlanes, rowsOf, rowsMade, decodedBy, decode}
+use Rattle.slice.specs.Calls.{PlanesRead, badPlanes, planesRead, readPlanes, rowsOf, rowsMade, decodedBy, decode}
 use Rattle.judge.specs.Good.{goodPlanes}
 
 -- what an answer of 0 says

@@ -6,15 +6,15 @@ use Prim.Native.Nat.{ℕ, zero, suc, _^_, _≤_, _<_}
 use native.Mathlib.Omega.{arith}
 use lib.ListN.{length, take, getD}
 use Rattle.ask.specs.Ask.{firstNo}
-use Rattle.calls.specs.Arguments.{Depth, Settings, Rows, Plane, Call, planesLent, planesOf}
+use Rattle.calls.specs.Arguments.{Depth, Settings, Rows, Plane, Call, planesLent, planesOf, positions, buffers}
 use Rattle.calls.specs.Questions.{readingQuestions}
 use Rattle.slice.specs.Calls.{readPlanes, decode}
-use Rattle.questions.specs.order.Order.{perStream}
-use Rattle.questions.specs.of_call.ByNumbers.{sliceCall}
-use Rattle.questions.proofs.of_call.Passed.{LegalPlane, Every, ReadingLegal, reading-legal}
-use Rattle.judge.specs.Good.{goodPlanes, buffers, positions, strides}
+use Rattle.questions.proofs.of_call.Passed.{ReadingLegal, reading-legal}
+use Rattle.judge.specs.Good.{goodPlanes, strides}
 use Rattle.judge.proofs.Planes.{slice-strides}
 use Rattle.judge.proofs.verdict.Laws.{number-no, number-bad, number-good}
+use Rattle.calls.specs.Views.{sliceCall}
+use Rattle.calls.specs.Legal.{LegalPlane, Every}
 
 -- no stride of the first n planes is above 7,680
 most : (n k : ℕ) (ps : List Plane) → k < n → k < length ps → Every LegalPlane (take n ps) → getD (strides ps) k 0 ≤ 7680
@@ -43,7 +43,7 @@ module _ (G : Given) where
   call = sliceCall (G .depth) (G .preset) (G .shift) (G .count) (G .r0 .stride) (G .r0 .samples) (G .r1 .stride) (G .r1 .samples) (G .r2 .stride) (G .r2 .samples) (G .r3 .stride) (G .r3 .samples)
 
   abbrev asked : ℕ → Type 0
-  asked n = n ≡ firstNo (readingQuestions call (perStream (length (G .dc)) (length (G .ac))) (perStream (G .d) (G .a)))
+  asked n = n ≡ firstNo (readingQuestions call (positions (length (G .dc)) (length (G .ac))) (positions (G .d) (G .a)))
 
   abbrev numbered : ℕ → Type 0
   numbered n = n ≡ decode call (buffers (G .dc) (G .ac)) (positions (G .d) (G .a)) .number
@@ -59,7 +59,7 @@ module _ (G : Given) where
   pub may-judge : {n : ℕ} → asked n → n ≡ 0
       → (G .d < 2 ^ 30) × (G .a < 2 ^ 30) × (G .count ≤ 4) × ((k : ℕ) → k < G .count → getD (G .r0 .stride ∷ G .r1 .stride ∷ G .r2 .stride ∷ G .r3 .stride ∷ []) k 0 ≤ 7680)
   may-judge e z =
-      let l = reading-legal call (perStream (length (G .dc)) (length (G .ac))) (perStream (G .d) (G .a)) (sym e ∙ z) in (
+      let l = reading-legal call (positions (length (G .dc)) (length (G .ac))) (positions (G .d) (G .a)) (sym e ∙ z) in (
         omega (arith, l .dc-start),
         omega (arith, l .ac-start),
         l .legal .which .1,

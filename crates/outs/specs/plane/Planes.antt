@@ -4,7 +4,7 @@ use mathlib.Core.List.{List}
 use Prim.Native.Nat.{ℕ}
 use Rattle.slice.specs.Calls.{Coded, Decoded}
 use Rattle.calls.specs.Previews.{Previewed, Reported, Sized}
-use Rattle.questions.specs.answers.Streams.{buffers, positions}
+use Rattle.calls.specs.Arguments.{buffers, positions}
 
 -- a coding call: number, both positions, both buffers
 abbrev pub codedAs : ℕ → ℕ → ℕ → List ℕ → List ℕ → Coded

@@ -1,19 +1,20 @@
 -- Laws of the header, over the definitions.
 use mathlib.Core.Path.{_≡_, refl, sym, _∙_}
 use mathlib.Core.Bool.{Bool, true, false}
-use mathlib.Core.List.{List}
-use Prim.Native.Nat.{ℕ, _+_, _≤_, _<_}
+use mathlib.Core.List.{List, [], _∷_}
+use Prim.Native.Nat.{ℕ, zero, suc, _+_, _≤_, _<_}
 use native.Mathlib.Omega.{arith}
 use mir.Val.{Fits}
 use mir.Syntax.{w64}
 use lib.Dec.{leb, eqb}
 use lib.ListN.{length}
-use borrow.Author.Tests.{le-leb, lt-leb, eq-eqb, ne-eqb, leb-true, leb-false}
-use Rattle.ask.specs.Ask.{firstNo}
+use borrow.Author.Tests.{le-leb, eq-eqb, ne-eqb, leb-true}
+use Rattle.ask.specs.Ask.{Question, firstNo}
+use Rattle.ask.specs.Limits.{shiftMax}
 use Rattle.layout.proofs.Laws.{sized}
-use Rattle.layout.specs.Geometry.{sizeOk, interlaceCapable}
+use Rattle.layout.specs.Geometry.{sizeOk, sizeQuestion, interlaceCapable}
 use Rattle.parser.specs.streams.Streams.{byteAt}
-use Rattle.parser.specs.head.Header.{formatAt, shiftIn, isInterlaced, countOk, headerQuestions, Legal}
+use Rattle.parser.specs.head.Header.{formatAt, shiftIn, isInterlaced, sliceCountOk, fiveQuestion, byteQuestions, headerQuestions, Legal}
 
 -- ---- the header
 pub format-small : (f : List ℕ) → formatAt f ≤ 2
@@ -38,48 +39,51 @@ module _ (h : ℕ) (f : List ℕ) {at : ℕ} (e : at ≡ formatAt f) where
   pub may-interlace : (byteAt f at ≡ 1 → ⊥) → isInterlaced h f ≡ interlaceCapable h
   may-interlace k = rw (← e, ne-eqb (byteAt f at) 1 k)
 
--- ---- the first "no" about the header, by what led there
+-- ---- the first "no" about the header
+abbrev pub beforeBytes : ℕ → ℕ → List ℕ → List Question
+beforeBytes w h f = sizeQuestion w h ∷ fiveQuestion f ∷ []
+
 module _ (w h : ℕ) (f : List ℕ) where
-  pub no-size : sizeOk w h ≡ false → firstNo (headerQuestions w h f) ≡ 9
+  pub all-yes : sizeOk w h ≡ true → 5 ≤ length f → 1 ≤ byteAt f 0 → byteAt f 0 ≤ 3 → shiftIn f ≤ shiftMax → sliceCountOk h f ≡ true → firstNo (headerQuestions w h f) ≡ 0
   unfolding firstNo headerQuestions
-  no-size a = rw a
+  all-yes a b d e g i = rw (a, le-leb 5 (length f) b, le-leb 1 (byteAt f 0) d, le-leb (byteAt f 0) 3 e, le-leb (shiftIn f) shiftMax g, i)
 
-  module _ (a : sizeOk w h ≡ true) where
-    pub no-five : length f < 5 → firstNo (headerQuestions w h f) ≡ 10
-    unfolding firstNo headerQuestions
-    no-five b = rw (a, lt-leb 5 (length f) b)
+  -- those before any byte is read
+  pub first-two : {n : ℕ} → n ≡ firstNo (beforeBytes w h f) → 0 < n → n ≡ firstNo (headerQuestions w h f)
+  unfolding firstNo headerQuestions
+  first-two {n} e k = go (sizeOk w h) refl (leb 5 (length f)) refl
+    where
+      go : (a : Bool) → sizeOk w h ≡ a → (b : Bool) → leb 5 (length f) ≡ b → n ≡ firstNo (headerQuestions w h f)
+      go false x b y = rw x (rw x at e)
+      go true x false y = rw (x, y) (rw (x, y) at e)
+      go true x true y = absurd (let z = rw (x, y) at e in omega arith)
 
-    module _ (b : 5 ≤ length f) where
-      pub no-format : byteAt f 0 < 1 → firstNo (headerQuestions w h f) ≡ 11
-      unfolding firstNo headerQuestions
-      no-format d = rw (a, le-leb 5 (length f) b, lt-leb 1 (byteAt f 0) d)
+  pub after-two : {n : ℕ} → n ≡ firstNo (beforeBytes w h f) → n ≤ 0 → firstNo (headerQuestions w h f) ≡ firstNo (byteQuestions h f)
+  unfolding firstNo headerQuestions
+  after-two {n} e k = go (sizeOk w h) refl (leb 5 (length f)) refl
+    where
+      go : (a : Bool) → sizeOk w h ≡ a → (b : Bool) → leb 5 (length f) ≡ b → firstNo (headerQuestions w h f) ≡ firstNo (byteQuestions h f)
+      go false x b y = absurd (let z = rw x at e in omega arith)
+      go true x false y = absurd (let z = rw (x, y) at e in omega arith)
+      go true x true y = rw (x, y)
 
-      pub above-three : 3 < byteAt f 0 → firstNo (headerQuestions w h f) ≡ 11
-      unfolding firstNo headerQuestions
-      above-three d = rw (a, le-leb 5 (length f) b, le-leb 1 (byteAt f 0) (omega arith), lt-leb (byteAt f 0) 3 d)
+  -- their answers are yes: so the size is legal and five bytes are there
+  pub two-legal : {n : ℕ} → n ≡ firstNo (beforeBytes w h f) → n ≤ 0 → Legal w h f
+  unfolding firstNo
+  two-legal {n} e k = go (sizeOk w h) refl (leb 5 (length f)) refl
+    where
+      go : (a : Bool) → sizeOk w h ≡ a → (b : Bool) → leb 5 (length f) ≡ b → Legal w h f
+      go false x b y = absurd (let z = rw x at e in omega arith)
+      go true x false y = absurd (let z = rw (x, y) at e in omega arith)
+      go true x true y = record { wide = sized w h x .wide; high = sized w h x .high; five = leb-true 5 (length f) y }
 
-      module _ (d : 1 ≤ byteAt f 0) (e : byteAt f 0 ≤ 3) where
-        pub no-shift : 15 < shiftIn f → firstNo (headerQuestions w h f) ≡ 2
-        unfolding firstNo headerQuestions
-        no-shift g = rw (a, le-leb 5 (length f) b, le-leb 1 (byteAt f 0) d, le-leb (byteAt f 0) 3 e, lt-leb (shiftIn f) 15 g)
-
-        module _ (g : shiftIn f ≤ 15) where
-          pub no-count : countOk h f ≡ false → firstNo (headerQuestions w h f) ≡ 12
-          unfolding firstNo headerQuestions
-          no-count i = rw (a, le-leb 5 (length f) b, le-leb 1 (byteAt f 0) d, le-leb (byteAt f 0) 3 e, le-leb (shiftIn f) 15 g, i)
-
-          pub all-yes : countOk h f ≡ true → firstNo (headerQuestions w h f) ≡ 0
-          unfolding firstNo headerQuestions
-          all-yes i = rw (a, le-leb 5 (length f) b, le-leb 1 (byteAt f 0) d, le-leb (byteAt f 0) 3 e, le-leb (shiftIn f) 15 g, i)
-
--- every answer is yes: so the size is legal and five bytes are there
-pub legal : (w h : ℕ) (f : List ℕ) → firstNo (headerQuestions w h f) ≡ 0 → Legal w h f
-legal w h f e = go (sizeOk w h) refl (leb 5 (length f)) refl
-  where
-    go : (a : Bool) → sizeOk w h ≡ a → (b : Bool) → leb 5 (length f) ≡ b → Legal w h f
-    go false x b y = absurd (let z = sym (no-size w h f x) ∙ e in omega arith)
-    go true x false y = absurd (let z = sym (no-five w h f x (leb-false 5 (length f) y)) ∙ e in omega arith)
-    go true x true y = record { wide = sized w h x .wide; high = sized w h x .high; five = leb-true 5 (length f) y }
+  -- and so where all answers are yes
+  pub legal : firstNo (headerQuestions w h f) ≡ 0 → Legal w h f
+  legal e = go (firstNo (beforeBytes w h f)) refl
+    where
+      go : (n : ℕ) → n ≡ firstNo (beforeBytes w h f) → Legal w h f
+      go zero d = two-legal d (omega arith)
+      go (suc n) d = absurd (let z = first-two d (omega arith) ∙ e in omega arith)
 
 -- no number above 0
 pub none-is : {n m : ℕ} → n ≡ m → n ≤ 0 → m ≡ 0

@@ -5,7 +5,7 @@ use native.Mathlib.Omega.{arith}
 use Prim.Native.Nat.{_+_, _≤_}
 use lib.ListN.{length, take, drop}
 use Rattle.ask.specs.Ask.{accepted}
-use Rattle.parser.specs.Frame.{viewOf}
+use Rattle.parser.specs.Frame.{viewOf, viewedAs}
 use Rattle.layout.specs.Views.{isAc}
 use Rattle.parser.proofs.Laws.{view-told, view-inside, part-size}
 use Rattle.parser.proofs.stream.Statement.{statement}
@@ -56,13 +56,13 @@ part-result-end-2 c = inside (c .before)
 returns : tie.Need-returns
 returns c =
     let k = c .before .before in
-    rw (view-told (k .before .before .view-at .ensures) (k .x .given .1)) (refl, refl)
+    rw (view-told (k .before .before .view-at .ensures) (k .x .given .1))
 
 returns-2 : tie.Need-returns-2
 returns-2 c =
     let k = c .before .before in
     rw (found k)
-    (ap (λ n. take n (drop (k .p .given .0 .0) (start (k .before .before) .args .frame .now))) (part-size (k .p .given .0 .0) (k .p .given .0 .1 .0)), refl)
+    (ap (λ n. viewedAs 0 (take n (drop (k .p .given .0 .0) (start (k .before .before) .args .frame .now)))) (part-size (k .p .given .0 .0) (k .p .given .0 .1 .0)))
 
 pub stream-spec : {M : Type 1} → statement M
 stream-spec =

@@ -10,6 +10,7 @@ use lib.Dec.{leb}
 use lib.ListN.{length}
 use borrow.Author.Tests.{le-leb, lt-leb, leb-true, leb-false}
 use Rattle.ask.specs.Ask.{Answer, refused, accepted, firstNo, asked, andThen}
+use Rattle.ask.specs.Numbers.{noBytes, noLimit}
 use Rattle.parser.specs.streams.Streams.{byteAt, lengthAt, oneStream, streams}
 use Rattle.parser.specs.streams.Views.{placeSays}
 use Rattle.parser.specs.declared.streams.Place.{Place}
@@ -32,15 +33,15 @@ length-is f p x y z u = rw (x, y, z, u)
 
 -- ---- one stream
 module _ (limit : ℕ) (f : List ℕ) (p : ℕ) where
-  pub one-cut : length f < p + 4 → oneStream limit f p ≡ refused 10
+  pub one-cut : length f < p + 4 → oneStream limit f p ≡ refused noBytes
   unfolding oneStream asked firstNo
   one-cut h = rw (lt-leb (p + 4) (length f) h)
 
-  pub one-long : p + 4 ≤ length f → limit < lengthAt f p → oneStream limit f p ≡ refused 13
+  pub one-long : p + 4 ≤ length f → limit < lengthAt f p → oneStream limit f p ≡ refused noLimit
   unfolding oneStream asked firstNo
   one-long h k = rw (le-leb (p + 4) (length f) h, lt-leb (lengthAt f p) limit k)
 
-  pub one-short : p + 4 ≤ length f → lengthAt f p ≤ limit → length f < p + 4 + lengthAt f p → oneStream limit f p ≡ refused 10
+  pub one-short : p + 4 ≤ length f → lengthAt f p ≤ limit → length f < p + 4 + lengthAt f p → oneStream limit f p ≡ refused noBytes
   unfolding oneStream asked firstNo
   one-short h k l =
       rw (le-leb (p + 4) (length f) h, le-leb (lengthAt f p) limit k, lt-leb (p + 4 + lengthAt f p) (length f) l)

@@ -5,6 +5,8 @@ use Prim.Native.Nat.{ℕ, _+_, _%_, _≤_}
 use lib.Dec.{leb, eqb}
 use lib.ListN.{length}
 use Rattle.ask.specs.Ask.{Question, ask}
+use Rattle.ask.specs.Limits.{shiftOk, widthMax, heightMax}
+use Rattle.ask.specs.Numbers.{noShift, noBytes, noFormat, noCount}
 use Rattle.layout.specs.Geometry.{sizeQuestion, sliceCount, interlaceCapable}
 use Rattle.parser.specs.streams.Streams.{byteAt}
 
@@ -31,22 +33,28 @@ abbrev pub isInterlaced : ℕ → List ℕ → Bool
 isInterlaced h f = notOne (eqb (byteAt f (formatAt f)) 1) && interlaceCapable h
 
 -- question 12: "Slice count as the layout's?"
-abbrev pub countOk : ℕ → List ℕ → Bool
-countOk h f = eqb (byteAt f (formatAt f + 2)) (sliceCount h % 256)
+abbrev pub sliceCountOk : ℕ → List ℕ → Bool
+sliceCountOk h f = eqb (byteAt f (formatAt f + 2)) (sliceCount h % 256)
 
--- questions 9, 10 (five bytes), 11, 2, 12
+-- question 11: "First byte 1, 2 or 3?"
+abbrev pub formatOk : List ℕ → Bool
+formatOk f = leb 1 (byteAt f 0) && leb (byteAt f 0) 3
+
+-- "A frame is questioned 9, 10 (five bytes), 11, 2, 12": those about the bytes are 11, 2, 12
+abbrev pub byteQuestions : ℕ → List ℕ → List Question
+byteQuestions h f = ask (formatOk f) noFormat ∷ ask (shiftOk (shiftIn f)) noShift ∷ ask (sliceCountOk h f) noCount ∷ []
+
+-- "Five bytes there"
+abbrev pub fiveQuestion : List ℕ → Question
+fiveQuestion f = ask (leb 5 (length f)) noBytes
+
 unfoldable pub headerQuestions : ℕ → ℕ → List ℕ → List Question
-headerQuestions w h f =
-    sizeQuestion w h
-    ∷ ask (leb 5 (length f)) 10
-    ∷ ask (leb 1 (byteAt f 0) && leb (byteAt f 0) 3) 11
-    ∷ ask (leb (shiftIn f) 15) 2
-    ∷ ask (countOk h f) 12 ∷ []
+headerQuestions w h f = sizeQuestion w h ∷ fiveQuestion f ∷ byteQuestions h f
 
 -- what the header's questions leave: a legal size and five bytes at least
 pub record Legal (w h : ℕ) (f : List ℕ) : Type 0 where
-  pub wide : w ≤ 7680
-  pub high : h ≤ 4320
+  pub wide : w ≤ widthMax
+  pub high : h ≤ heightMax
   pub five : 5 ≤ length f
 
 -- what is read of a frame: interlaced, quality, DC shift, header length, and whether AC streams follow

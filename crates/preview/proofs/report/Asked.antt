@@ -12,9 +12,10 @@ use Rattle.bits.specs.Bits.{bitAt}
 use Rattle.bits.specs.Lay.{lay}
 use Rattle.calls.specs.ReadPlane.{Blocks, badBlocks, blocks, readBlocks}
 use Rattle.calls.specs.Grid.{blocksOf}
-use Rattle.calls.specs.Questions.{strideOk, startOk, acLengthOk, reportQuestions}
+use Rattle.calls.specs.Questions.{reportQuestions}
 use Rattle.calls.specs.Previews.{Reported, reportedBy, blockReport}
 use Rattle.acread.specs.through.Through.{reportsOf, acEnd}
+use Rattle.ask.specs.Limits.{strideOk, startOk, acReadOk}
 
 module _ (stride : ℕ) (report : List ℕ) (bytes at : ℕ) where
   pub no-stride : strideOk stride ≡ false → 4 ≡ firstNo (reportQuestions stride report bytes at)

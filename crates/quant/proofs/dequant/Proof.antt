@@ -3,16 +3,11 @@ use mathlib.Core.Path.{_≡_, refl, _∙_}
 use Prim.Native.Nat.{_-_}
 use native.Mathlib.Omega.{arith}
 use borrow.Author.Needs.{sfits-of}
-use mir.Syntax.{w16}
-use mir.Val.{toZ}
-use lib.IntN.{ℤ, pos}
+use lib.IntN.{ℤ}
 use lib.ListN.{getD}
-use Rattle.scalar.specs.Scalar.{mulloOf, sraOf}
 use Rattle.scalar.proofs.Fill.{Filled, filled-next, filled-done}
 use Rattle.scalar.proofs.Laws.{lane1}
-use Rattle.tables.specs.Divisor.{divisor}
-use Rattle.quant.specs.Quantise.{coefficient, dequantised, dequantiseBy}
-use Rattle.quant.proofs.Entry.{entry-restores}
+use Rattle.quant.specs.Quantise.{coefficient, dequantised, dequantiseWith}
 use Rattle.quant.proofs.dequant.Statement.{statement}
 use Rattle.quant.proofs.dequant.Tie as tie
 use Rattle.quant.proofs.dequant.Reads as reads
@@ -20,10 +15,10 @@ use Rattle.quant.proofs.dequant.Lts as lts
 use Rattle.quant.proofs.dequant1.Reads as dequant1-reads
 
 abbrev Inv-loop : tie.InvT-loop
-Inv-loop preset d shift n w₀ i₀ w i = Filled 64 (λ j. dequantised shift (divisor preset j) (coefficient n j)) w i
+Inv-loop d shift n w₀ i₀ w i = Filled 64 (λ j. dequantised shift (getD d j 0) (coefficient n j)) w i
 
 abbrev μ-loop : tie.MeasureT-loop
-μ-loop preset d shift n w₀ i₀ w i = 64 - i
+μ-loop d shift n w₀ i₀ w i = 64 - i
 
 loop-holds : tie.Need-loop-holds Inv-loop μ-loop
 loop-holds c = (search needs, (refl, refl))
@@ -41,7 +36,7 @@ element-copy-out-dequant1 : tie.Need-element-copy-out-dequant1 Inv-loop μ-loop
 element-copy-out-dequant1 c = search needs
 
 dequant1-requires : tie.Need-dequant1-requires Inv-loop μ-loop
-dequant1-requires c κs = c .before .before .before .before .pre .1 .0
+dequant1-requires c κs = c .before .before .before .before .pre
 
 mul-w : tie.Need-mul-w Inv-loop μ-loop
 mul-w c = search needs
@@ -62,15 +57,14 @@ loop-again c =
     let a = s .args in
     let i = l .loop .i in
     let h = c .before .before .before .loop-test .taken in
-    filled-next 64 (λ j. dequantised (a .shift) (divisor (a .preset) j) (coefficient (a .t1) j)) (l .loop .w) i h (l .loop .inv)
-    (lane1 (λ (x : ℤ). sraOf (mulloOf x (toZ w16 (getD (a .d .now) i 0))) (a .shift)) (sfits-of (c .before .before .dequant1-arg .given)) (sfits-of (c .dequant1 .ok)) (c .dequant1 .ensures)
-    ∙ entry-restores (a .shift) (a .preset) i (a .d .now) (coefficient (a .t1) i) (s .pre .0) h (s .pre .1 .1))
+    filled-next 64 (λ j. dequantised (a .shift) (getD (a .d .now) j 0) (coefficient (a .t1) j)) (l .loop .w) i h (l .loop .inv)
+    (lane1 (dequantised (a .shift) (getD (a .d .now) i 0)) (sfits-of (c .before .before .dequant1-arg .given)) (sfits-of (c .dequant1 .ok)) (c .dequant1 .ensures))
 
 returns : tie.Need-returns Inv-loop μ-loop
-unfolding dequantiseBy
+unfolding dequantiseWith
 returns c = let l = c .before in
     let a = l .before .args in
-    filled-done 64 (λ j. dequantised (a .shift) (divisor (a .preset) j) (coefficient (a .t1) j)) (l .loop .w) (l .loop .i) (c .loop-test .left) (l .loop .inv)
+    filled-done 64 (λ j. dequantised (a .shift) (getD (a .d .now) j 0) (coefficient (a .t1) j)) (l .loop .w) (l .loop .i) (c .loop-test .left) (l .loop .inv)
 
 pub dequant-spec : {M : Type 1} → statement M
 dequant-spec =

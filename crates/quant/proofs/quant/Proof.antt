@@ -1,6 +1,6 @@
 use borrow.Author.Needs.{needs}
 use mathlib.Core.Path.{_≡_, refl, _∙_}
-use Prim.Native.Nat.{_-_, _+_}
+use Prim.Native.Nat.{ℕ, _-_, _+_, _<_}
 use native.Mathlib.Omega.{arith}
 use borrow.Author.Needs.{sfits-of}
 use mir.Syntax.{w16}
@@ -8,12 +8,11 @@ use mir.Val.{SFits}
 use mir.Facts.{toZ-ofZ}
 use lib.IntN.{ℤ, pos, natAbs}
 use lib.ListN.{getD}
-use Rattle.scalar.proofs.Fill.{Filled, filled-next, filled-done}
+use Rattle.scalar.proofs.Fill.{Filled, filled-next, filled-done, tab-ext}
 use Rattle.scalar.proofs.Laws.{lane1}
-use Rattle.tables.specs.Divisor.{divisor}
 use Rattle.tables.specs.Reciprocal.{twoHigh}
-use Rattle.quant.specs.Quantise.{coefficient, withSign, roundedDivision, quantiseOf}
-use Rattle.quant.proofs.Entry.{entry-needs, entry-divides}
+use Rattle.quant.specs.Quantise.{coefficient, withSign, quantiseOf}
+use Rattle.quant.proofs.Entry.{one-more, multipliedAt, entry-needs, entry-divides}
 use Rattle.quant.proofs.quant.Statement.{statement}
 use Rattle.quant.proofs.quant.Tie as tie
 use Rattle.quant.proofs.quant.Reads as reads
@@ -21,13 +20,13 @@ use Rattle.quant.proofs.quant.Lts as lts
 use Rattle.quant.proofs.one.quant1.Reads as quant1-reads
 
 abbrev Inv-loop : tie.InvT-loop
-Inv-loop preset k w q₀ i₀ q i = Filled 64 (λ j. roundedDivision (coefficient w j) (divisor preset j)) q i
+Inv-loop k w q₀ i₀ q i = Filled 64 (multipliedAt k w) q i × ((j : ℕ) → j < i → SFits w16 (coefficient w j))
 
 abbrev μ-loop : tie.MeasureT-loop
-μ-loop preset k w q₀ i₀ q i = 64 - i
+μ-loop k w q₀ i₀ q i = 64 - i
 
 loop-holds : tie.Need-loop-holds Inv-loop μ-loop
-loop-holds c = (search needs, (refl, refl))
+loop-holds c = ((search needs, (refl, refl)), λ j h. absurd (omega arith))
 
 mul-quant1 : tie.Need-mul-quant1 Inv-loop μ-loop
 mul-quant1 c = search needs
@@ -66,7 +65,7 @@ quant1-requires c κs =
     let a = s .args in
     let i = l .loop .i in
     let x : SFits w16 (coefficient (a .t1) i) = sfits-of (c .before .before .before .quant1-arg .given) in
-    rw (toZ-ofZ x) (entry-needs (a .preset) i (a .k .now) (coefficient (a .t1) i) (s .pre .0) (c .before .before .before .before .loop-test .taken) (s .pre .1) x)
+    rw (toZ-ofZ x) (entry-needs (s .pre .preset) i (a .k .now) (coefficient (a .t1) i) (s .pre .preset-lt) (c .before .before .before .before .loop-test .taken) (s .pre .numbers) x)
 
 mul-q : tie.Need-mul-q Inv-loop μ-loop
 mul-q c = search needs
@@ -88,16 +87,19 @@ loop-again c =
     let i = l .loop .i in
     let h = c .before .before .before .before .before .loop-test .taken in
     let x : SFits w16 (coefficient (a .t1) i) = sfits-of (c .before .before .before .before .quant1-arg .given) in
-    let k = a .k .now in
-    filled-next 64 (λ j. roundedDivision (coefficient (a .t1) j) (divisor (a .preset) j)) (l .loop .q) i h (l .loop .inv)
-    (lane1 (λ (x : ℤ). withSign x (twoHigh (getD k i 0) (getD k (64 + i) 0) (getD k (128 + i) 0) (natAbs x))) x (sfits-of (c .quant1 .ok)) (c .quant1 .ensures)
-    ∙ entry-divides (a .preset) i k (coefficient (a .t1) i) (s .pre .0) h (s .pre .1) x)
+    let k = a .k .now in (
+      filled-next 64 (multipliedAt k (a .t1)) (l .loop .q) i h (l .loop .inv .0)
+          (lane1 (λ (x : ℤ). withSign x (twoHigh (getD k i 0) (getD k (64 + i) 0) (getD k (128 + i) 0) (natAbs x))) x (sfits-of (c .quant1 .ok)) (c .quant1 .ensures)),
+      one-more {P = λ (j : ℕ). SFits w16 (coefficient (a .t1) j)} i x (l .loop .inv .1),
+    )
 
 returns : tie.Need-returns Inv-loop μ-loop
 unfolding quantiseOf
 returns c = let l = c .before in
     let a = l .before .args in
-    filled-done 64 (λ j. roundedDivision (coefficient (a .t1) j) (divisor (a .preset) j)) (l .loop .q) (l .loop .i) (c .loop-test .left) (l .loop .inv)
+    λ preset hp e.
+    filled-done 64 (multipliedAt (a .k .now) (a .t1)) (l .loop .q) (l .loop .i) (c .loop-test .left) (l .loop .inv .0)
+    ∙ tab-ext 64 (λ j h. entry-divides preset j (a .k .now) (coefficient (a .t1) j) hp h e (l .loop .inv .1 j (omega (arith, h, c .loop-test .left))))
 
 pub quant-spec : {M : Type 1} → statement M
 quant-spec =

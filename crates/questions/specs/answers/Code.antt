@@ -2,9 +2,9 @@
 use mathlib.Core.List.{List}
 use Prim.Native.Nat.{ℕ}
 use Rattle.slice.specs.Calls.{Coded}
-use Rattle.questions.specs.answers.Streams.{buffers, positions}
 use Rattle.questions.specs.declared.answers.CodeAnswer.{CodeAnswer}
 use Rattle.questions.specs.declared.answers.CodeAnswer.the-variants.{Refused, Accepted}
+use Rattle.calls.specs.Arguments.{buffers, positions}
 
 -- document 01's number and positions of an answer, with both buffers as they are now
 abbrev pub answered : CodeAnswer → List ℕ → List ℕ → Coded

@@ -2,9 +2,9 @@
 use mathlib.Core.List.{List}
 use Prim.Native.Nat.{ℕ}
 use Rattle.slice.specs.Calls.{Decoded}
-use Rattle.questions.specs.answers.Streams.{positions}
 use Rattle.questions.specs.declared.answers.ReadAnswer.{ReadAnswer}
 use Rattle.questions.specs.declared.answers.ReadAnswer.the-variants.{Refused, Accepted}
+use Rattle.calls.specs.Arguments.{positions}
 
 -- document 01's number and positions of an answer, with the rows of every lent plane as they are now
 abbrev pub answered : ReadAnswer → List (List ℕ) → Decoded

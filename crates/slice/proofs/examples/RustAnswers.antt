@@ -28,8 +28,9 @@ use Rattle.calls.specs.Arguments.{eight, ten, Settings, Plane, PerStream, Buffe
 use Rattle.calls.specs.Streams.{codedDc, stepsFrom, stepCode, stepCodes, dcStream, symbolCodes, acStream}
 use Rattle.calls.specs.ReadPlane.{readPlaces, readBlocks, readSteps, predicted, readPlane}
 use Rattle.slice.specs.Plane.{lanesAt, blockCoefficients, coefficientsAt, transformed, filledFlat, blockSamples, reconstructAt}
-use Rattle.calls.specs.Questions.{codingQuestions, readingQuestions}
+use Rattle.calls.specs.Questions.{readingQuestions}
 use Rattle.slice.specs.Calls.{ownStreams, readPlanes, rowsMade, Decoded, decode, decodePlane}
+use Rattle.slice.specs.Room.{codingQuestions}
 
 -- ---- 8-bit, stride 8, place 1, preset 12, shift 2
 σ8 : Settings
@@ -52,7 +53,7 @@ bytes8 =
     }
 
 codes8 : ownStreams σ8 (plane8 ∷ []) ≡ bytes8
-unfolding σ8 plane8 bytes8 ownStreams dcStream acStream padToByte toBytes num stepCodes stepCode stepsFrom codedDc symbolCodes codeOf signedOf valueCode runCode spread bitLength halvings bitsOf coefficientsAt blockCoefficients lanesAt tabFrom fcol._▸_ fcol.columnOf fcol.butterflyOf fcol.evenOf fcol.oddOf frow.ftab1 frow.ftab2 frow.ftab3 frow.ftab4 frow.tableAt frow.sideAt frow.dotOf frow.coefficientAt frow.rowsOf fdct.levelOf fdct.columnsOf fdct.transformOf fdct.forwardOf sat16 wrap16 wrap32 addsOf subsOf addOf mulhiOf mulloOf sraOf sllOf orOf packusOf quantiseOf roundedDivision withSign divisor baseMatrix qualityFactors scanOf zigzag unzigzag naturalOf dequantised dequantiseBy irow.tab04 irow.tab17 irow.tab26 irow.tab35 irow.rowLane irow.rowsOf icol._▸_ icol.oddOf icol.evenOf icol.sumOf icol.diffOf icol.joinOf icol.columnOf columns.columnAt columns.columnsOf inverseOf samplesOf over flatSample decode readPlanes rowsMade readingQuestions firstNo readPlane readBlocks readPlaces readSymbol readTail tailAt zeros bitAt readSteps readDc predicted reconstructAt blockSamples transformed filledFlat
+unfolding σ8 plane8 bytes8 ownStreams dcStream acStream padToByte toBytes num stepCodes stepCode stepsFrom codedDc symbolCodes codeOf signedOf valueCode runCode spread bitLength halvings bitsOf coefficientsAt blockCoefficients lanesAt tabFrom fcol._▸_ fcol.forwardColumnOf fcol.butterflyOf fcol.forwardEvenOf fcol.forwardOddOf frow.ftab1 frow.ftab2 frow.ftab3 frow.ftab4 frow.tableAt frow.sideAt frow.dotOf frow.coefficientAt frow.forwardRowsOf fdct.levelShiftOf fdct.forwardColumnsOf fdct.transformOf fdct.forwardOf sat16 wrap16 wrap32 addsOf subsOf addOf mulhiOf mulloOf sraOf sllOf orOf packusOf quantiseOf roundedDivision withSign divisor baseMatrix qualityFactors scanOf zigzag unzigzag naturalOf dequantised dequantiseBy irow.tab04 irow.tab17 irow.tab26 irow.tab35 irow.rowLane irow.inverseRowsOf icol.inverseOddOf icol.inverseEvenOf icol.inverseSumOf icol.inverseDiffOf icol.inverseJoinOf icol.inverseColumnOf columns.inverseColumnAt columns.inverseColumnsOf inverseOf samplesOf over flatSample decode readPlanes rowsMade readingQuestions firstNo readPlane readBlocks readPlaces readSymbol readTail tailAt zeros bitAt readSteps readDc predicted reconstructAt blockSamples transformed filledFlat
 codes8 = refl
 
 reads8 : decodePlane σ8 (blank8 1) bytes8 (record { dc = 0; ac = 0 })
@@ -67,7 +68,7 @@ reads8 : decodePlane σ8 (blank8 1) bytes8 (record { dc = 0; ac = 0 })
           195 ∷ 250 ∷ 1 ∷ 64 ∷ 109 ∷ 135 ∷ 205 ∷ 181 ∷ 255 ∷ 10 ∷ 76 ∷ 93 ∷ 142 ∷ 191 ∷ 201 ∷ 36 ∷ 32 ∷ 101 ∷ 122 ∷ 146 ∷ 201 ∷ 239 ∷ 25 ∷
           48 ∷ 89 ∷ 117 ∷ 153 ∷ 209 ∷ 255 ∷ 46 ∷ 50 ∷ 112 ∷ 150 ∷ 187 ∷ 224 ∷ 0 ∷ []) ∷ [];
     }
-unfolding σ8 blank8 bytes8 ownStreams dcStream acStream padToByte toBytes num stepCodes stepCode stepsFrom codedDc symbolCodes codeOf signedOf valueCode runCode spread bitLength halvings bitsOf coefficientsAt blockCoefficients lanesAt tabFrom fcol._▸_ fcol.columnOf fcol.butterflyOf fcol.evenOf fcol.oddOf frow.ftab1 frow.ftab2 frow.ftab3 frow.ftab4 frow.tableAt frow.sideAt frow.dotOf frow.coefficientAt frow.rowsOf fdct.levelOf fdct.columnsOf fdct.transformOf fdct.forwardOf sat16 wrap16 wrap32 addsOf subsOf addOf mulhiOf mulloOf sraOf sllOf orOf packusOf quantiseOf roundedDivision withSign divisor baseMatrix qualityFactors scanOf zigzag unzigzag naturalOf dequantised dequantiseBy irow.tab04 irow.tab17 irow.tab26 irow.tab35 irow.rowLane irow.rowsOf icol._▸_ icol.oddOf icol.evenOf icol.sumOf icol.diffOf icol.joinOf icol.columnOf columns.columnAt columns.columnsOf inverseOf samplesOf over flatSample decode readPlanes rowsMade readingQuestions firstNo readPlane readBlocks readPlaces readSymbol readTail tailAt zeros bitAt readSteps readDc predicted reconstructAt blockSamples transformed filledFlat
+unfolding σ8 blank8 bytes8 ownStreams dcStream acStream padToByte toBytes num stepCodes stepCode stepsFrom codedDc symbolCodes codeOf signedOf valueCode runCode spread bitLength halvings bitsOf coefficientsAt blockCoefficients lanesAt tabFrom fcol._▸_ fcol.forwardColumnOf fcol.butterflyOf fcol.forwardEvenOf fcol.forwardOddOf frow.ftab1 frow.ftab2 frow.ftab3 frow.ftab4 frow.tableAt frow.sideAt frow.dotOf frow.coefficientAt frow.forwardRowsOf fdct.levelShiftOf fdct.forwardColumnsOf fdct.transformOf fdct.forwardOf sat16 wrap16 wrap32 addsOf subsOf addOf mulhiOf mulloOf sraOf sllOf orOf packusOf quantiseOf roundedDivision withSign divisor baseMatrix qualityFactors scanOf zigzag unzigzag naturalOf dequantised dequantiseBy irow.tab04 irow.tab17 irow.tab26 irow.tab35 irow.rowLane irow.inverseRowsOf icol.inverseOddOf icol.inverseEvenOf icol.inverseSumOf icol.inverseDiffOf icol.inverseJoinOf icol.inverseColumnOf columns.inverseColumnAt columns.inverseColumnsOf inverseOf samplesOf over flatSample decode readPlanes rowsMade readingQuestions firstNo readPlane readBlocks readPlaces readSymbol readTail tailAt zeros bitAt readSteps readDc predicted reconstructAt blockSamples transformed filledFlat
 reads8 = refl
 
 -- ---- 10-bit, stride 16, place 3, preset 20, shift 0
@@ -91,7 +92,7 @@ bytes10 =
     }
 
 codes10 : ownStreams σ10 (plane10 ∷ []) ≡ bytes10
-unfolding σ10 plane10 bytes10 ownStreams dcStream acStream padToByte toBytes num stepCodes stepCode stepsFrom codedDc symbolCodes codeOf signedOf valueCode runCode spread bitLength halvings bitsOf coefficientsAt blockCoefficients lanesAt tabFrom fcol._▸_ fcol.columnOf fcol.butterflyOf fcol.evenOf fcol.oddOf frow.ftab1 frow.ftab2 frow.ftab3 frow.ftab4 frow.tableAt frow.sideAt frow.dotOf frow.coefficientAt frow.rowsOf fdct.levelOf fdct.columnsOf fdct.transformOf fdct.forwardOf sat16 wrap16 wrap32 addsOf subsOf addOf mulhiOf mulloOf sraOf sllOf orOf packusOf quantiseOf roundedDivision withSign divisor baseMatrix qualityFactors scanOf zigzag unzigzag naturalOf dequantised dequantiseBy irow.tab04 irow.tab17 irow.tab26 irow.tab35 irow.rowLane irow.rowsOf icol._▸_ icol.oddOf icol.evenOf icol.sumOf icol.diffOf icol.joinOf icol.columnOf columns.columnAt columns.columnsOf inverseOf samplesOf over flatSample decode readPlanes rowsMade readingQuestions firstNo readPlane readBlocks readPlaces readSymbol readTail tailAt zeros bitAt readSteps readDc predicted reconstructAt blockSamples transformed filledFlat
+unfolding σ10 plane10 bytes10 ownStreams dcStream acStream padToByte toBytes num stepCodes stepCode stepsFrom codedDc symbolCodes codeOf signedOf valueCode runCode spread bitLength halvings bitsOf coefficientsAt blockCoefficients lanesAt tabFrom fcol._▸_ fcol.forwardColumnOf fcol.butterflyOf fcol.forwardEvenOf fcol.forwardOddOf frow.ftab1 frow.ftab2 frow.ftab3 frow.ftab4 frow.tableAt frow.sideAt frow.dotOf frow.coefficientAt frow.forwardRowsOf fdct.levelShiftOf fdct.forwardColumnsOf fdct.transformOf fdct.forwardOf sat16 wrap16 wrap32 addsOf subsOf addOf mulhiOf mulloOf sraOf sllOf orOf packusOf quantiseOf roundedDivision withSign divisor baseMatrix qualityFactors scanOf zigzag unzigzag naturalOf dequantised dequantiseBy irow.tab04 irow.tab17 irow.tab26 irow.tab35 irow.rowLane irow.inverseRowsOf icol.inverseOddOf icol.inverseEvenOf icol.inverseSumOf icol.inverseDiffOf icol.inverseJoinOf icol.inverseColumnOf columns.inverseColumnAt columns.inverseColumnsOf inverseOf samplesOf over flatSample decode readPlanes rowsMade readingQuestions firstNo readPlane readBlocks readPlaces readSymbol readTail tailAt zeros bitAt readSteps readDc predicted reconstructAt blockSamples transformed filledFlat
 codes10 = refl
 
 reads10 : decodePlane σ10 blank10 bytes10 (record { dc = 0; ac = 0 })
@@ -116,7 +117,7 @@ reads10 : decodePlane σ10 blank10 bytes10 (record { dc = 0; ac = 0 })
           35520 ∷ 36096 ∷ 37184 ∷ 38656 ∷ 40192 ∷ 41600 ∷ 42688 ∷ 43328 ∷ 47360 ∷ 43328 ∷ 41344 ∷ 42752 ∷ 45376 ∷ 47552 ∷ 46592 ∷ 43328 ∷
           49344 ∷ 49920 ∷ 51008 ∷ 52416 ∷ 54016 ∷ 55424 ∷ 56512 ∷ 57152 ∷ []) ∷ [];
     }
-unfolding σ10 blank10 bytes10 tenOf ownStreams dcStream acStream padToByte toBytes num stepCodes stepCode stepsFrom codedDc symbolCodes codeOf signedOf valueCode runCode spread bitLength halvings bitsOf coefficientsAt blockCoefficients lanesAt tabFrom fcol._▸_ fcol.columnOf fcol.butterflyOf fcol.evenOf fcol.oddOf frow.ftab1 frow.ftab2 frow.ftab3 frow.ftab4 frow.tableAt frow.sideAt frow.dotOf frow.coefficientAt frow.rowsOf fdct.levelOf fdct.columnsOf fdct.transformOf fdct.forwardOf sat16 wrap16 wrap32 addsOf subsOf addOf mulhiOf mulloOf sraOf sllOf orOf packusOf quantiseOf roundedDivision withSign divisor baseMatrix qualityFactors scanOf zigzag unzigzag naturalOf dequantised dequantiseBy irow.tab04 irow.tab17 irow.tab26 irow.tab35 irow.rowLane irow.rowsOf icol._▸_ icol.oddOf icol.evenOf icol.sumOf icol.diffOf icol.joinOf icol.columnOf columns.columnAt columns.columnsOf inverseOf samplesOf over flatSample decode readPlanes rowsMade readingQuestions firstNo readPlane readBlocks readPlaces readSymbol readTail tailAt zeros bitAt readSteps readDc predicted reconstructAt blockSamples transformed filledFlat
+unfolding σ10 blank10 bytes10 tenOf ownStreams dcStream acStream padToByte toBytes num stepCodes stepCode stepsFrom codedDc symbolCodes codeOf signedOf valueCode runCode spread bitLength halvings bitsOf coefficientsAt blockCoefficients lanesAt tabFrom fcol._▸_ fcol.forwardColumnOf fcol.butterflyOf fcol.forwardEvenOf fcol.forwardOddOf frow.ftab1 frow.ftab2 frow.ftab3 frow.ftab4 frow.tableAt frow.sideAt frow.dotOf frow.coefficientAt frow.forwardRowsOf fdct.levelShiftOf fdct.forwardColumnsOf fdct.transformOf fdct.forwardOf sat16 wrap16 wrap32 addsOf subsOf addOf mulhiOf mulloOf sraOf sllOf orOf packusOf quantiseOf roundedDivision withSign divisor baseMatrix qualityFactors scanOf zigzag unzigzag naturalOf dequantised dequantiseBy irow.tab04 irow.tab17 irow.tab26 irow.tab35 irow.rowLane irow.inverseRowsOf icol.inverseOddOf icol.inverseEvenOf icol.inverseSumOf icol.inverseDiffOf icol.inverseJoinOf icol.inverseColumnOf columns.inverseColumnAt columns.inverseColumnsOf inverseOf samplesOf over flatSample decode readPlanes rowsMade readingQuestions firstNo readPlane readBlocks readPlaces readSymbol readTail tailAt zeros bitAt readSteps readDc predicted reconstructAt blockSamples transformed filledFlat
 reads10 = refl
 
 -- ---- bytes that no coder wrote, 8-bit, place 0, preset 3, shift 5, from bytes 1 and 2 on
@@ -136,5 +137,5 @@ reads-wild : decodePlane (record { depth = eight; preset = 3; shift = 5 }) (blan
           132 ∷ 122 ∷ 128 ∷ 129 ∷ 117 ∷ 131 ∷ 125 ∷ 126 ∷ 157 ∷ 122 ∷ 151 ∷ 150 ∷ 127 ∷ 158 ∷ 123 ∷ 121 ∷ 147 ∷ 86 ∷ 131 ∷ 129 ∷ 98 ∷ 149 ∷
           112 ∷ []) ∷ [];
     }
-unfolding blank8 wild ownStreams dcStream acStream padToByte toBytes num stepCodes stepCode stepsFrom codedDc symbolCodes codeOf signedOf valueCode runCode spread bitLength halvings bitsOf coefficientsAt blockCoefficients lanesAt tabFrom fcol._▸_ fcol.columnOf fcol.butterflyOf fcol.evenOf fcol.oddOf frow.ftab1 frow.ftab2 frow.ftab3 frow.ftab4 frow.tableAt frow.sideAt frow.dotOf frow.coefficientAt frow.rowsOf fdct.levelOf fdct.columnsOf fdct.transformOf fdct.forwardOf sat16 wrap16 wrap32 addsOf subsOf addOf mulhiOf mulloOf sraOf sllOf orOf packusOf quantiseOf roundedDivision withSign divisor baseMatrix qualityFactors scanOf zigzag unzigzag naturalOf dequantised dequantiseBy irow.tab04 irow.tab17 irow.tab26 irow.tab35 irow.rowLane irow.rowsOf icol._▸_ icol.oddOf icol.evenOf icol.sumOf icol.diffOf icol.joinOf icol.columnOf columns.columnAt columns.columnsOf inverseOf samplesOf over flatSample decode readPlanes rowsMade readingQuestions firstNo readPlane readBlocks readPlaces readSymbol readTail tailAt zeros bitAt readSteps readDc predicted reconstructAt blockSamples transformed filledFlat
+unfolding blank8 wild ownStreams dcStream acStream padToByte toBytes num stepCodes stepCode stepsFrom codedDc symbolCodes codeOf signedOf valueCode runCode spread bitLength halvings bitsOf coefficientsAt blockCoefficients lanesAt tabFrom fcol._▸_ fcol.forwardColumnOf fcol.butterflyOf fcol.forwardEvenOf fcol.forwardOddOf frow.ftab1 frow.ftab2 frow.ftab3 frow.ftab4 frow.tableAt frow.sideAt frow.dotOf frow.coefficientAt frow.forwardRowsOf fdct.levelShiftOf fdct.forwardColumnsOf fdct.transformOf fdct.forwardOf sat16 wrap16 wrap32 addsOf subsOf addOf mulhiOf mulloOf sraOf sllOf orOf packusOf quantiseOf roundedDivision withSign divisor baseMatrix qualityFactors scanOf zigzag unzigzag naturalOf dequantised dequantiseBy irow.tab04 irow.tab17 irow.tab26 irow.tab35 irow.rowLane irow.inverseRowsOf icol.inverseOddOf icol.inverseEvenOf icol.inverseSumOf icol.inverseDiffOf icol.inverseJoinOf icol.inverseColumnOf columns.inverseColumnAt columns.inverseColumnsOf inverseOf samplesOf over flatSample decode readPlanes rowsMade readingQuestions firstNo readPlane readBlocks readPlaces readSymbol readTail tailAt zeros bitAt readSteps readDc predicted reconstructAt blockSamples transformed filledFlat
 reads-wild = refl

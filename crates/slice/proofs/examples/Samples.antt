@@ -32,8 +32,9 @@ use Rattle.calls.specs.Arguments.{eight, Settings, Plane, PerStream, Buffers}
 use Rattle.calls.specs.Streams.{codedDc, stepsFrom, stepCode, stepCodes, dcStream, symbolCodes, acStream}
 use Rattle.calls.specs.ReadPlane.{readPlaces, readBlocks, readSteps, predicted, readPlane}
 use Rattle.slice.specs.Plane.{lanesAt, blockCoefficients, coefficientsAt, transformed, filledFlat, blockSamples, reconstructAt}
-use Rattle.calls.specs.Questions.{codingQuestions, readingQuestions}
+use Rattle.calls.specs.Questions.{readingQuestions}
 use Rattle.slice.specs.Calls.{ownStreams, readPlanes, rowsMade, Decoded, decode, decodePlane}
+use Rattle.slice.specs.Room.{codingQuestions}
 
 -- an 8-bit plane, stride 8, all samples the same
 all : ℕ → ℕ → Plane
@@ -100,6 +101,6 @@ table =
     ∷ []
 
 entries-hold : AllHold table
-unfolding table AllHold Holds dcRead chosen correctionOf reciprocalOf scaleOf shiftOf leadingZeros qualityPreset chooseFrom previewByte all at-shift bytes ownStreams dcStream acStream padToByte toBytes num stepCodes stepCode stepsFrom codedDc symbolCodes codeOf signedOf valueCode runCode spread bitLength halvings bitsOf coefficientsAt blockCoefficients lanesAt tabFrom fcol._▸_ fcol.columnOf fcol.butterflyOf fcol.evenOf fcol.oddOf frow.ftab1 frow.ftab2 frow.ftab3 frow.ftab4 frow.tableAt frow.sideAt frow.dotOf frow.coefficientAt frow.rowsOf fdct.levelOf fdct.columnsOf fdct.transformOf fdct.forwardOf sat16 wrap16 wrap32 addsOf subsOf addOf mulhiOf mulloOf sraOf sllOf orOf packusOf quantiseOf roundedDivision withSign divisor baseMatrix qualityFactors scanOf zigzag unzigzag naturalOf dequantised dequantiseBy irow.tab04 irow.tab17 irow.tab26 irow.tab35 irow.rowLane irow.rowsOf icol._▸_ icol.oddOf icol.evenOf icol.sumOf icol.diffOf icol.joinOf icol.columnOf columns.columnAt columns.columnsOf inverseOf samplesOf over flatSample decode readPlanes rowsMade readingQuestions firstNo readPlane readBlocks readPlaces readSymbol readTail tailAt zeros bitAt readSteps readDc predicted reconstructAt blockSamples transformed filledFlat
+unfolding table AllHold Holds dcRead chosen correctionOf reciprocalOf scaleOf shiftOf leadingZeros qualityPreset chooseFrom previewByte all at-shift bytes ownStreams dcStream acStream padToByte toBytes num stepCodes stepCode stepsFrom codedDc symbolCodes codeOf signedOf valueCode runCode spread bitLength halvings bitsOf coefficientsAt blockCoefficients lanesAt tabFrom fcol._▸_ fcol.forwardColumnOf fcol.butterflyOf fcol.forwardEvenOf fcol.forwardOddOf frow.ftab1 frow.ftab2 frow.ftab3 frow.ftab4 frow.tableAt frow.sideAt frow.dotOf frow.coefficientAt frow.forwardRowsOf fdct.levelShiftOf fdct.forwardColumnsOf fdct.transformOf fdct.forwardOf sat16 wrap16 wrap32 addsOf subsOf addOf mulhiOf mulloOf sraOf sllOf orOf packusOf quantiseOf roundedDivision withSign divisor baseMatrix qualityFactors scanOf zigzag unzigzag naturalOf dequantised dequantiseBy irow.tab04 irow.tab17 irow.tab26 irow.tab35 irow.rowLane irow.inverseRowsOf icol.inverseOddOf icol.inverseEvenOf icol.inverseSumOf icol.inverseDiffOf icol.inverseJoinOf icol.inverseColumnOf columns.inverseColumnAt columns.inverseColumnsOf inverseOf samplesOf over flatSample decode readPlanes rowsMade readingQuestions firstNo readPlane readBlocks readPlaces readSymbol readTail tailAt zeros bitAt readSteps readDc predicted reconstructAt blockSamples transformed filledFlat
 entries-hold =
     (refl, (refl, (refl, (refl, (refl, (refl, (refl, (refl, (refl, (refl, (refl, (refl, (refl, (refl, (refl, tt)))))))))))))))

@@ -20,12 +20,13 @@ use Rattle.calls.specs.Arguments.{eight, ten, Settings, Rows, Plane, Call, oneP
 use Rattle.calls.specs.Streams.{codedDc, stepsFrom, stepCode, stepCodes, dcStream, symbolCodes, acStream}
 use Rattle.calls.specs.ReadPlane.{readPlaces, readBlocks, readSteps, predicted, readPlane}
 use Rattle.slice.specs.Plane.{lanesAt, blockCoefficients, coefficientsAt}
-use Rattle.calls.specs.Questions.{codingQuestions, readingQuestions}
+use Rattle.calls.specs.Questions.{readingQuestions}
 use Rattle.slice.specs.Calls.{ownStreams, encode, readPlanes, decode}
 use Rattle.slice.specs.CallLists.{emptyBook, bookNumber, planesCoded, OneSetting, Follows, blocksRead}
 use Rattle.slice.specs.Demand3.{fed, planes, readFrom, ReadingHalf}
 use Rattle.slice.proofs.Runs.{encodeAll, decodeAll, encode-runs, decode-runs}
 use Rattle.slice.proofs.Demand3.{of-definitions}
+use Rattle.slice.specs.Room.{codingQuestions}
 
 σ : Settings
 σ = record { depth = eight; preset = 0; shift = 3 }
@@ -55,14 +56,14 @@ appended : Buffers
 appended = record { dcBytes = 0 ∷ 0 ∷ []; acBytes = [] }
 
 one-setting : OneSetting σ (fed buffers starts) emptyBook calls
-unfolding σ other rows plane calls buffers starts OneSetting bookNumber firstNo codingQuestions ownStreams dcStream acStream padToByte toBytes num stepCodes stepCode stepsFrom codedDc symbolCodes codeOf valueCode runCode spread bitLength halvings bitsOf coefficientsAt blockCoefficients lanesAt tabFrom fcol._▸_ fcol.columnOf fcol.butterflyOf fcol.evenOf fcol.oddOf frow.ftab1 frow.ftab2 frow.ftab3 frow.ftab4 frow.tableAt frow.sideAt frow.dotOf frow.coefficientAt frow.rowsOf fdct.levelOf fdct.columnsOf fdct.transformOf fdct.forwardOf sat16 wrap16 wrap32 addsOf subsOf addOf mulhiOf sraOf sllOf orOf quantiseOf roundedDivision withSign divisor baseMatrix qualityFactors scanOf zigzag
+unfolding σ other rows plane calls buffers starts OneSetting bookNumber firstNo codingQuestions ownStreams dcStream acStream padToByte toBytes num stepCodes stepCode stepsFrom codedDc symbolCodes codeOf valueCode runCode spread bitLength halvings bitsOf coefficientsAt blockCoefficients lanesAt tabFrom fcol._▸_ fcol.forwardColumnOf fcol.butterflyOf fcol.forwardEvenOf fcol.forwardOddOf frow.ftab1 frow.ftab2 frow.ftab3 frow.ftab4 frow.tableAt frow.sideAt frow.dotOf frow.coefficientAt frow.forwardRowsOf fdct.levelShiftOf fdct.forwardColumnsOf fdct.transformOf fdct.forwardOf sat16 wrap16 wrap32 addsOf subsOf addOf mulhiOf sraOf sllOf orOf quantiseOf roundedDivision withSign divisor baseMatrix qualityFactors scanOf zigzag
 one-setting = (refl, (tt, (refl, tt)))
 
 streams : Buffers
 streams = readFrom (encodeAll calls buffers starts) appended
 
 follows : Follows σ (planes calls buffers starts) readings streams starts (decodeAll readings streams starts .answers)
-unfolding σ other rows plane calls readings buffers starts appended streams Follows planesCoded encodeAll decodeAll encode decode lay bookNumber firstNo codingQuestions readingQuestions ownStreams dcStream acStream padToByte toBytes num stepCodes stepCode stepsFrom codedDc symbolCodes codeOf signedOf valueCode runCode spread bitLength halvings bitsOf coefficientsAt blockCoefficients lanesAt tabFrom fcol._▸_ fcol.columnOf fcol.butterflyOf fcol.evenOf fcol.oddOf frow.ftab1 frow.ftab2 frow.ftab3 frow.ftab4 frow.tableAt frow.sideAt frow.dotOf frow.coefficientAt frow.rowsOf fdct.levelOf fdct.columnsOf fdct.transformOf fdct.forwardOf sat16 wrap16 wrap32 addsOf subsOf addOf mulhiOf sraOf sllOf orOf quantiseOf roundedDivision withSign divisor baseMatrix qualityFactors scanOf zigzag readPlanes readPlane readBlocks readPlaces readSymbol readTail tailAt zeros bitAt readSteps readDc predicted
+unfolding σ other rows plane calls readings buffers starts appended streams Follows planesCoded encodeAll decodeAll encode decode lay bookNumber firstNo codingQuestions readingQuestions ownStreams dcStream acStream padToByte toBytes num stepCodes stepCode stepsFrom codedDc symbolCodes codeOf signedOf valueCode runCode spread bitLength halvings bitsOf coefficientsAt blockCoefficients lanesAt tabFrom fcol._▸_ fcol.forwardColumnOf fcol.butterflyOf fcol.forwardEvenOf fcol.forwardOddOf frow.ftab1 frow.ftab2 frow.ftab3 frow.ftab4 frow.tableAt frow.sideAt frow.dotOf frow.coefficientAt frow.forwardRowsOf fdct.levelShiftOf fdct.forwardColumnsOf fdct.transformOf fdct.forwardOf sat16 wrap16 wrap32 addsOf subsOf addOf mulhiOf sraOf sllOf orOf quantiseOf roundedDivision withSign divisor baseMatrix qualityFactors scanOf zigzag readPlanes readPlane readBlocks readPlaces readSymbol readTail tailAt zeros bitAt readSteps readDc predicted
 follows = (refl, refl, (refl, refl, tt))
 
 -- so the claim says something of these three planes
@@ -72,5 +73,5 @@ shown = of-definitions .reading calls buffers starts (encodeAll calls buffers st
     (decodeAll readings streams starts) (decode-runs readings streams starts) follows
 
 three : length (planes calls buffers starts) ≡ 3
-unfolding σ other rows plane calls buffers starts planesCoded bookNumber firstNo codingQuestions ownStreams dcStream acStream padToByte toBytes num stepCodes stepCode stepsFrom codedDc symbolCodes codeOf valueCode runCode spread bitLength halvings bitsOf coefficientsAt blockCoefficients lanesAt tabFrom fcol._▸_ fcol.columnOf fcol.butterflyOf fcol.evenOf fcol.oddOf frow.ftab1 frow.ftab2 frow.ftab3 frow.ftab4 frow.tableAt frow.sideAt frow.dotOf frow.coefficientAt frow.rowsOf fdct.levelOf fdct.columnsOf fdct.transformOf fdct.forwardOf sat16 wrap16 wrap32 addsOf subsOf addOf mulhiOf sraOf sllOf orOf quantiseOf roundedDivision withSign divisor baseMatrix qualityFactors scanOf zigzag
+unfolding σ other rows plane calls buffers starts planesCoded bookNumber firstNo codingQuestions ownStreams dcStream acStream padToByte toBytes num stepCodes stepCode stepsFrom codedDc symbolCodes codeOf valueCode runCode spread bitLength halvings bitsOf coefficientsAt blockCoefficients lanesAt tabFrom fcol._▸_ fcol.forwardColumnOf fcol.butterflyOf fcol.forwardEvenOf fcol.forwardOddOf frow.ftab1 frow.ftab2 frow.ftab3 frow.ftab4 frow.tableAt frow.sideAt frow.dotOf frow.coefficientAt frow.forwardRowsOf fdct.levelShiftOf fdct.forwardColumnsOf fdct.transformOf fdct.forwardOf sat16 wrap16 wrap32 addsOf subsOf addOf mulhiOf sraOf sllOf orOf quantiseOf roundedDivision withSign divisor baseMatrix qualityFactors scanOf zigzag
 three = refl

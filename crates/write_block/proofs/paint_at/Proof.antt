@@ -1,4 +1,4 @@
--- `write_block::paint_at`: in each branch the part of the rows behind the corner is painted.
+-- `write_block::paint_at`: in each branch the part of the rows from the corner on is painted.
 use borrow.Author.Needs.{needs, sfits-of}
 use mathlib.Core.Bool.{true, false}
 use mathlib.Core.Logic.{_⊎_, inl, inr, ⊎-elim}
@@ -9,11 +9,11 @@ use native.Mathlib.Omega.{arith}
 use lib.ListN.{length, take, drop}
 use mir.Facts.{toZ-ofZ}
 use Rattle.planes.proofs.Laws.{part-is, part-long}
-use Rattle.write_block.proofs.Joined.{flat, block8, block10, only-ac, neither}
+use Rattle.write_block.proofs.Joined.{preset-law, flat, block8, block10, only-ac, neither}
 use Rattle.write_block.proofs.paint_at.Statement.{statement}
 use Rattle.write_block.proofs.paint_at.Tie as tie
 
--- the part of the rows behind c, and y in its place
+-- the part of the rows from c on, and y in its place
 abbrev part : ℕ → List ℕ → List ℕ
 part c rows = take (length rows - c) (drop c rows)
 
@@ -42,10 +42,10 @@ returns c =
     let s = k .before .before .before .before .before in
     let e : s .args .deep ≡ true = t .if3 .taken in
     rw e (
-      λ place h.
+      λ preset place eq h.
           ap (put (s .args .c) (s .args .rows16 .now))
-          (block10 (s .args .stride) (s .args .preset) (s .args .v) (s .args .t6) (part (s .args .c) (s .args .rows16 .now)) (s .args .has-ac) (s .good .1 .1 .1 .1 .1 .0 .1 .0 .1)
-          (rw e at (k .idct-core .ensures)) (rw (toZ-ofZ (s .fits .v)) at (p .store16 .ensures)) place h),
+          (block10 (s .args .stride) preset (s .args .v) (s .args .t6) (part (s .args .c) (s .args .rows16 .now)) (s .args .has-ac) (s .good .1 .1 .1 .1 .1 .0 .1 .0 .1)
+          (preset-law true preset (s .args .t6) e eq (k .idct-core .ensures)) (rw (toZ-ofZ (s .fits .v)) at (p .store16 .ensures)) place h),
       refl,
     )
 
@@ -78,10 +78,10 @@ returns-2 c =
     let e : s .args .deep ≡ false = t .if3 .left in
     let f : s .args .has-ac ≡ true = only-ac (came j) e (u .if2 .taken) in
     rw (e, f) (
-      λ place h.
+      λ preset place eq h.
           ap (put (s .args .c) (s .args .rows8 .now))
-          (block8 (s .args .stride) (s .args .preset) (s .args .v) (s .args .t6) (part (s .args .c) (s .args .rows8 .now)) (s .good .1 .1 .1 .1 .1 .0 .1 .0 .1)
-          (rw e at (k .idct-core .ensures)) (rw (toZ-ofZ (s .fits .v)) at (p .store8 .ensures)) place h),
+          (block8 (s .args .stride) preset (s .args .v) (s .args .t6) (part (s .args .c) (s .args .rows8 .now)) (s .good .1 .1 .1 .1 .1 .0 .1 .0 .1)
+          (preset-law false preset (s .args .t6) e eq (k .idct-core .ensures)) (rw (toZ-ofZ (s .fits .v)) at (p .store8 .ensures)) place h),
       refl,
     )
 
@@ -110,9 +110,9 @@ returns-3 c =
     let e : s .args .deep ≡ false = b .0 in
     let f : s .args .has-ac ≡ false = b .1 in
     rw (e, f) (
-      λ place h.
+      λ preset place eq h.
           ap (put (s .args .c) (s .args .rows8 .now))
-          (flat (s .args .stride) (s .args .preset) (s .args .v) (s .args .t6) (part (s .args .c) (s .args .rows8 .now)) (toZ-ofZ (sfits-of (d .dc .given)))
+          (flat (s .args .stride) preset (s .args .v) (s .args .t6) (part (s .args .c) (s .args .rows8 .now)) (toZ-ofZ (sfits-of (d .dc .given)))
           (rw (toZ-ofZ (s .fits .v)) at (p .broadcast-dc8 .ensures)) place h),
       refl,
     )

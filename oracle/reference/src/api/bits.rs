@@ -58,7 +58,7 @@ impl Writer {
 }
 
 /// One code tail (zeros, then two bits more) read at a bit position: its number
-/// and the position behind it, or nothing where it is corrupt.
+/// and the position after it, or nothing where it is corrupt.
 pub fn code_tail(data: &[u8], pos: usize) -> Option<(u64, usize)> {
     let mut r = BitReader::at(data, pos);
     let v = r.code_tail().ok()?;
@@ -70,7 +70,7 @@ pub fn bit(data: &[u8], pos: usize) -> u32 {
 }
 
 /// One DC code, as `decode_plane` reads it: nothing for a zero step, else the
-/// number; and the position behind it.
+/// number; and the position after it.
 pub fn dc_code(data: &[u8], pos: usize) -> Option<(Option<u64>, usize)> {
     let mut r = BitReader::at(data, pos);
     if r.bit() == 1 {

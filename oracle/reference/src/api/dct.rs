@@ -31,8 +31,16 @@ pub fn broadcast_dc8(dc: i16, dst: &mut [u8], stride: usize, add: i16) {
     crate::dct::broadcast_dc8(dc, dst, stride, add)
 }
 
-/// Forward transform, quantiser and zig-zag of a row of blocks, their lanes taken as encode_plane takes them; the last block's numbers are kept.
-pub fn forward_row<T: super::slice::Sample>(path: Path, rows: &[T], stride: usize, depth: Depth, matrix: &[u16; 192], add: i16) -> [i16; 64] {
+/// Forward transform, quantiser and zig-zag of a row of blocks, their lanes taken as encode_plane takes them; the last
+/// block's numbers are kept.
+pub fn forward_row<T: super::slice::Sample>(
+    path: Path,
+    rows: &[T],
+    stride: usize,
+    depth: Depth,
+    matrix: &[u16; 192],
+    add: i16,
+) -> [i16; 64] {
     let mut last = [0; 64];
     on!(path, S => {
         for x in (0..stride).step_by(8) {

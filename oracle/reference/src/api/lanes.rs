@@ -8,8 +8,7 @@ pub type V16 = [i16; 8];
 pub type V32 = [i32; 4];
 
 /// Operations of two rows of eight lanes.
-pub const TWO: [&str; 10] =
-    ["adds", "subs", "add16", "mulhi", "mulhi_u", "mullo", "or16", "sign16", "min16", "max16"];
+pub const TWO: [&str; 10] = ["adds", "subs", "add16", "mulhi", "mulhi_u", "mullo", "or16", "sign16", "min16", "max16"];
 /// Operations of one row and a shift.
 pub const SHIFTS: [&str; 2] = ["srai16", "slli16"];
 /// Shuffles of eight lanes.
@@ -34,10 +33,11 @@ impl Numbers for Scalar {
 
 impl Numbers for Native {
     fn in32(v: V32) -> <Native as Isa>::V32 {
-        // Both are sixteen bytes, lane 0 first, and have no invalid values.
+        // SAFETY: both are sixteen bytes, lane 0 first, and have no invalid values.
         unsafe { core::mem::transmute(v) }
     }
     fn out32(v: <Native as Isa>::V32) -> V32 {
+        // SAFETY: as above.
         unsafe { core::mem::transmute(v) }
     }
 }

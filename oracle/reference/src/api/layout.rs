@@ -92,7 +92,7 @@ pub fn write(
     out
 }
 
-/// The same, behind what the vector has.
+/// The same, after what the vector has.
 pub fn write_into(
     out: &mut Vec<u8>,
     layout: &Layout,

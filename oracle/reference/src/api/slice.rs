@@ -7,7 +7,10 @@ use crate::slice::level_shift;
 
 /// A sample type: `u8` for 8-bit planes, `u16` for 10-bit planes.
 #[allow(private_bounds)]
-pub trait Sample: crate::slice::Sample + crate::slice::DecodeOut + Default + PartialEq + std::fmt::Debug + 'static {}
+pub trait Sample:
+    crate::slice::Sample + crate::slice::DecodeOut + Default + PartialEq + std::fmt::Debug + 'static
+{
+}
 impl Sample for u8 {}
 impl Sample for u16 {}
 
@@ -29,7 +32,7 @@ pub fn encode_plane<T: Sample>(
     (dc.into_bytes(), ac.into_bytes())
 }
 
-/// Reads one plane at byte positions; the positions behind it, or nothing where
+/// Reads one plane at byte positions; the positions after it, or nothing where
 /// it is corrupt (`rows` then holds the blocks before that place).
 #[allow(clippy::too_many_arguments)]
 pub fn decode_plane<T: Sample>(
@@ -48,7 +51,7 @@ pub fn decode_plane<T: Sample>(
     Some((d.bit_pos() / 8, a.bit_pos() / 8))
 }
 
-/// Reads the preview of one plane; the DC position behind it.
+/// Reads the preview of one plane; the DC position after it.
 pub fn decode_plane_preview(
     out0: &mut [u8],
     out1: &mut [u8],
@@ -64,7 +67,11 @@ pub fn decode_plane_preview(
 
 /// The streams of a slice of `planes` (stride, sixteen rows), by
 /// `encode_one_slice` (SSE2 path only).
-pub fn encode_one_slice<T: Sample>(planes: &[(usize, Vec<T>)], matrix: &[u16; 192], dc_shift: u32) -> (Vec<u8>, Vec<u8>) {
+pub fn encode_one_slice<T: Sample>(
+    planes: &[(usize, Vec<T>)],
+    matrix: &[u16; 192],
+    dc_shift: u32,
+) -> (Vec<u8>, Vec<u8>) {
     let mut pl = Planes { data: [vec![], vec![], vec![], vec![]], strides: [8; 4] };
     for (p, (stride, rows)) in planes.iter().enumerate() {
         pl.strides[p] = *stride;

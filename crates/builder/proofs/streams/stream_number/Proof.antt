@@ -1,50 +1,37 @@
--- `builder::streams::stream_number`: each return is the first "no".
+-- `builder::streams::stream_number`: one question after the other, from the last to the first.
 use borrow.Author.Needs.{needs}
-use borrow.Author.Tests.{lt-ltb, le-ltb, le-leb, lt-leb, eq-eqb, ne-eqb}
-use mathlib.Core.Path.{_≡_, refl, sym, _∙_, ap}
-use mathlib.Core.Bool.{true, false}
-use mathlib.Core.List.{List, [], _∷_, _++_}
-use native.Mathlib.Omega.{arith}
-use Prim.Native.Nat.{ℕ, _+_, _*_, _-_, _/_, _%_, _≤_, _<_}
-use lib.ListN.{length, take, drop, length-set}
+use mathlib.Core.Path.{_≡_, _∙_, ap, ap₂}
+use mathlib.Core.Bool.{Bool}
+use Prim.Native.Nat.{ℕ}
 use lib.Dec.{leb}
-use Rattle.layout.specs.Views.{isAc}
-use Rattle.builder.specs.Views.{builderSays}
-use Rattle.builder.proofs.streams.Laws.{stream-room, stream-long, stream-turn, stream-yes}
+use Rattle.ask.specs.Ask.{orElse, firstNo}
+use Rattle.ask.specs.Numbers.{noRoom, noLimit, noTurn}
+use Rattle.builder.specs.streams.Put.{streamQuestions}
 use Rattle.builder.proofs.streams.stream_number.Statement.{statement}
 use Rattle.builder.proofs.streams.stream_number.Tie as tie
 
 returns : tie.Need-returns
+unfolding streamQuestions firstNo
 returns c =
-    let t = c .before .before in
-    let a = t .before .before .args in
-    sym
-    (stream-long (builderSays (a .b)) (isAc (a .kind)) (a .slice) (a .n) (a .len) (sym (t .before .fits-stream .ensures) ∙ t .if1 .taken) (omega arith))
-
-returns-2 : tie.Need-returns-2
-returns-2 c =
-    let e = c .before .before in
-    let t = e .before .before in
-    let a = t .before .before .args in
-    sym
-    (stream-yes (builderSays (a .b)) (isAc (a .kind)) (a .slice) (a .n) (a .len) (sym (t .before .fits-stream .ensures) ∙ t .if1 .taken) (omega arith)
-    (sym (c .before .in-turn .ensures) ∙ c .if3 .taken))
-
-returns-3 : tie.Need-returns-3
-returns-3 c =
-    let e = c .before .before in
-    let t = e .before .before in
-    let a = t .before .before .args in
-    sym
-    (stream-turn (builderSays (a .b)) (isAc (a .kind)) (a .slice) (a .n) (a .len) (sym (t .before .fits-stream .ensures) ∙ t .if1 .taken) (omega arith)
-    (sym (c .before .in-turn .ensures) ∙ c .if3 .left))
-
-returns-4 : tie.Need-returns-4
-returns-4 c =
-    let a = c .before .before .args in
-    sym (stream-room (builderSays (a .b)) (isAc (a .kind)) (a .slice) (a .n) (a .len) (sym (c .before .fits-stream .ensures) ∙ c .if1 .left))
+    let from-limit = c .before in
+    let from-turn = from-limit .before in
+    let turn = from-turn .before in
+    let limit = turn .before in
+    let room = limit .before in
+    let a = room .before .args in
+    c .or-else3 .ensures
+    ∙ ap₂ (λ (b : Bool) (n : ℕ). orElse b noRoom n) (room .fits-stream .ensures) (from-limit .or-else2 .ensures
+    ∙ ap₂ (λ (b : Bool) (n : ℕ). orElse b noLimit n) (ap (λ (l : ℕ). leb (a .n) l) (limit .limit-for .ensures)) (from-turn .or-else .ensures
+    ∙ ap (λ (b : Bool). orElse b noTurn 0) (turn .in-turn .ensures)))
 
 pub stream-number-spec : {M : Type 1} → statement M
 stream-number-spec =
     tie.close
-    (tie.spec (λ c κs. search needs) (λ c κs. search needs) returns (λ c κs. search needs) returns-2 returns-3 returns-4)
+    (tie.spec
+    (λ c κs. search needs)
+    (λ c κs. search needs)
+    (λ c κs. search needs)
+    (λ c κs. search needs)
+    (λ c κs. search needs)
+    (λ c κs. search needs)
+    returns)

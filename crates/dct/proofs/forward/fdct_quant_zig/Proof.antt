@@ -13,9 +13,10 @@ returns c =
     let q = c .before in
     let f = q .before in
     let s = f .before in
+    λ preset h e.
     c .zigzag .ensures
-    ∙ ap scanOf (q .quant .ensures
-    ∙ ap (quantiseOf (s .args .preset)) (f .fdct .ensures ∙ ap (λ (z : ℤ). transformOf (s .args .shift) z (s .args .block)) (toZ-ofZ (s .fits .add))))
+    ∙ ap scanOf (q .quant .ensures preset h e
+    ∙ ap (quantiseOf preset) (f .fdct .ensures ∙ ap (λ (z : ℤ). transformOf (s .args .shift) z (s .args .block)) (toZ-ofZ (s .fits .add))))
 
 pub fdct-quant-zig-spec : {M : Type 1} → statement M
 fdct-quant-zig-spec = tie.close (tie.spec (λ c κs. search needs) (λ c κs. search needs) (λ c κs. search needs) returns)

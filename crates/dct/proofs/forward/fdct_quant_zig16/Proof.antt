@@ -10,7 +10,7 @@ returns c =
     let l = c .before in
     let n = l .before in
     let s = n .before .before in
-    joined true (s .args .preset) (s .args .level) (sfits-of (n .negated .ok)) (n .negated .ensures) (l .load16 .ensures) (c .fdct-quant-zig .ensures)
+    λ preset h e. joined true preset (s .args .level) (sfits-of (n .negated .ok)) (n .negated .ensures) (l .load16 .ensures) (c .fdct-quant-zig .ensures preset h e)
 
 pub fdct-quant-zig16-spec : {M : Type 1} → statement M
 fdct-quant-zig16-spec = tie.close (tie.spec (λ c κs. search needs) (λ c κs. search needs) (λ c κs. search needs) returns)

@@ -10,7 +10,7 @@ returns c =
     let l = c .before in
     let n = l .before in
     let s = n .before .before in
-    joined false (s .args .preset) (s .args .level) (sfits-of (n .negated .ok)) (n .negated .ensures) (l .load8 .ensures) (c .fdct-quant-zig .ensures)
+    λ preset h e. joined false preset (s .args .level) (sfits-of (n .negated .ok)) (n .negated .ensures) (l .load8 .ensures) (c .fdct-quant-zig .ensures preset h e)
 
 pub fdct-quant-zig8-spec : {M : Type 1} → statement M
 fdct-quant-zig8-spec = tie.close (tie.spec (λ c κs. search needs) (λ c κs. search needs) (λ c κs. search needs) returns)

@@ -11,7 +11,7 @@ returns c =
     let n = c .before in
     let a = n .before in
     let s = a .before in
-    core-law (s .args .ten) (s .args .preset) (s .args .nat) (a .dequant .ensures) (n .dequant-shift .ensures) (c .inverse .ensures)
+    core-law (s .args .ten) (s .args .d .now) (s .args .nat) (a .dequant .ensures) (n .dequant-shift .ensures) (c .inverse .ensures)
 
 pub idct-core-spec : {M : Type 1} → statement M
 idct-core-spec = tie.close (tie.spec (λ c κs. search needs) (λ c κs. search needs) inverse-requires returns)

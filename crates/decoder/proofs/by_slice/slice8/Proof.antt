@@ -1,8 +1,6 @@
 -- `decoder::by_slice::slice8`: one storing pass after the other.
 use Prim.Native.Nat.{_≤_}
-use Rattle.calls.specs.Arguments.{eight}
-use Rattle.encplane.specs.Coding.{settings}
-use Rattle.encoder.specs.by_slice.SliceCoding.{rows}
+use Rattle.calls.specs.Arguments.{eight, settings, rows}
 use Rattle.decoder.proofs.by_slice.Slices.{Given, ask-0, whole-1, ask-1, whole-2, ask-2, whole-3, ask-3, whole-4}
 use Rattle.decoder.proofs.by_slice.slice8.Statement.{statement}
 use Rattle.decoder.proofs.by_slice.slice8.Tie as tie

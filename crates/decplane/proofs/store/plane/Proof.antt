@@ -7,35 +7,35 @@ use native.Mathlib.Omega.{arith}
 use lib.ListN.{length}
 use borrow.Author.Needs.{needs, sfits-of}
 use mir.Facts.{toZ-ofZ}
-use Rattle.encplane.specs.Coding.{plane}
 use Rattle.planes.proofs.Laws.{corner-fits}
-use Rattle.write_block.specs.Depths.{depthOf, rowsOf}
+use Rattle.write_block.specs.Depths.{depthOf, depthRows}
 use Rattle.decplane.proofs.store.Loops.{Behind, Row, begun, as-long, asks, inside, next, next-row, ended, done}
 use Rattle.decplane.proofs.store.plane.Statement.{statement}
 use Rattle.decplane.proofs.store.plane.Tie as tie
+use Rattle.calls.specs.Arguments.{plane}
 
 -- the rows of the other depth are as they were lent
 abbrev Kept : Bool → List ℕ → List ℕ → List ℕ → List ℕ → Type 0
-Kept deep rows8₀ rows16₀ rows8 rows16 = rowsOf (not deep) rows8 rows16 ≡ rowsOf (not deep) rows8₀ rows16₀
+Kept deep rows8₀ rows16₀ rows8 rows16 = depthRows (not deep) rows8 rows16 ≡ depthRows (not deep) rows8₀ rows16₀
 
-long8 : (deep : Bool) (l8 l16 m8 m16 : List ℕ) → length (rowsOf deep l8 l16) ≡ length (rowsOf deep m8 m16) → Kept deep m8 m16 l8 l16 → length l8 ≡ length m8
+long8 : (deep : Bool) (l8 l16 m8 m16 : List ℕ) → length (depthRows deep l8 l16) ≡ length (depthRows deep m8 m16) → Kept deep m8 m16 l8 l16 → length l8 ≡ length m8
 long8 false l8 l16 m8 m16 h k = h
 long8 true l8 l16 m8 m16 h k = ap length k
 
-long16 : (deep : Bool) (l8 l16 m8 m16 : List ℕ) → length (rowsOf deep l8 l16) ≡ length (rowsOf deep m8 m16) → Kept deep m8 m16 l8 l16 → length l16 ≡ length m16
+long16 : (deep : Bool) (l8 l16 m8 m16 : List ℕ) → length (depthRows deep l8 l16) ≡ length (depthRows deep m8 m16) → Kept deep m8 m16 l8 l16 → length l16 ≡ length m16
 long16 false l8 l16 m8 m16 h k = ap length k
 long16 true l8 l16 m8 m16 h k = h
 
 abbrev Inv-loop2 : tie.InvT-loop2
 Inv-loop2 deep rows8₀ rows16₀ stride place preset shift dc d ac a v q z cols s₀ j k₀ rows8 rows16 s k =
-    (k ≤ cols) × Row (depthOf deep) preset shift place stride dc ac d a j s₀ (rowsOf deep rows8₀ rows16₀) k s (rowsOf deep rows8 rows16) × Kept deep rows8₀ rows16₀ rows8 rows16
+    (k ≤ cols) × Row (depthOf deep) preset shift place stride dc ac d a j s₀ (depthRows deep rows8₀ rows16₀) k s (depthRows deep rows8 rows16) × Kept deep rows8₀ rows16₀ rows8 rows16
 
 abbrev μ-loop2 : tie.MeasureT-loop2
 μ-loop2 deep rows8₀ rows16₀ stride place preset shift dc d ac a v q z cols s₀ j k₀ rows8 rows16 s k = cols - k
 
 abbrev Inv-loop : tie.InvT-loop
 Inv-loop deep rows8₀ rows16₀ stride place preset shift dc d ac a v q z cols s₀ j₀ rows8 rows16 s j =
-    (j ≤ 2) × Behind (depthOf deep) preset shift (plane place stride (rowsOf deep rows8₀ rows16₀)) dc ac d a j 0 s (rowsOf deep rows8 rows16) × Kept deep rows8₀ rows16₀ rows8 rows16
+    (j ≤ 2) × Behind (depthOf deep) preset shift (plane place stride (depthRows deep rows8₀ rows16₀)) dc ac d a j 0 s (depthRows deep rows8 rows16) × Kept deep rows8₀ rows16₀ rows8 rows16
 
 abbrev μ-loop : tie.MeasureT-loop
 μ-loop deep rows8₀ rows16₀ stride place preset shift dc d ac a v q z cols s₀ j₀ rows8 rows16 s j = 2 - j
@@ -64,8 +64,8 @@ loop2-holds c = (omega arith, λ l o b. b, refl)
 
 -- the blocks so far in a turn of the inner loop
 sofar : (c : tie.In-loop2 Inv-loop2 μ-loop2 Inv-loop μ-loop) → let l2 = c .before in let l = l2 .before .before in let a = start (l .before) .args in
-    Behind (depthOf (a .deep)) (a .preset) (a .shift) (plane (a .place) (a .stride) (rowsOf (a .deep) (a .rows8 .now) (a .rows16 .now))) (a .dc .now) (a .ac .now) (a .d) (a .a) (l .loop .j) (l2 .loop2 .k) (l2 .loop2 .s) (rowsOf (a .deep) (l2 .loop2 .rows8) (l2 .loop2 .rows16))
-sofar c = let l2 = c .before in let l = l2 .before .before in let s = start (l .before) in l2 .loop2 .inv .1 (rowsOf (s .args .deep) (s .args .rows8 .now) (s .args .rows16 .now)) (s .pre) (l .loop .inv .1)
+    Behind (depthOf (a .deep)) (a .preset) (a .shift) (plane (a .place) (a .stride) (depthRows (a .deep) (a .rows8 .now) (a .rows16 .now))) (a .dc .now) (a .ac .now) (a .d) (a .a) (l .loop .j) (l2 .loop2 .k) (l2 .loop2 .s) (depthRows (a .deep) (l2 .loop2 .rows8) (l2 .loop2 .rows16))
+sofar c = let l2 = c .before in let l = l2 .before .before in let s = start (l .before) in l2 .loop2 .inv .1 (depthRows (s .args .deep) (s .args .rows8 .now) (s .args .rows16 .now)) (s .pre) (l .loop .inv .1)
 
 next-block-requires : tie.Need-next-block-requires Inv-loop2 μ-loop2 Inv-loop μ-loop
 next-block-requires c κs =
@@ -84,7 +84,7 @@ corner-requires c κs =
 
 -- the block lies in the rows
 there : (c : tie.After-corner Inv-loop2 μ-loop2 Inv-loop μ-loop) → let l2 = c .before .before .before .before in let s = start (l2 .before .before .before) in
-    c .corner .result + (7 * s .args .stride + 8) ≤ length (rowsOf (s .args .deep) (l2 .loop2 .rows8) (l2 .loop2 .rows16))
+    c .corner .result + (7 * s .args .stride + 8) ≤ length (depthRows (s .args .deep) (l2 .loop2 .rows8) (l2 .loop2 .rows16))
 there c =
     let i2 = c .before .before .before in
     let l2 = i2 .before in
@@ -96,14 +96,11 @@ paint-at-requires : tie.Need-paint-at-requires Inv-loop2 μ-loop2 Inv-loop μ-lo
 paint-at-requires c κs =
     let k = c .before .before .before .before in
     let l2 = k .before .before .before .before in
-    let b = l2 .before .before .before in
-    let s = start b in (
+    let s = start (l2 .before .before .before) in (
       s .pre .wide,
       s .pre .stride-le,
       there k,
       omega (arith, k .corner .ensures, corner-fits (l2 .before .before .loop .j) (l2 .loop2 .k) (s .args .stride) (l2 .before .loop-test .taken) (k .before .before .before .loop2-test .taken), s .pre .stride-le),
-      omega (arith, s .pre .preset-le),
-      b .before .before .decode-numbers .ensures,
     )
 
 add-k : tie.Need-add-k Inv-loop2 μ-loop2 Inv-loop μ-loop
@@ -129,8 +126,8 @@ loop2-again c =
     let v = l .before .before .before .before .level-of in (
       omega (arith, i2 .loop2-test .taken),
       λ r o x.
-          next (l .loop .j) (l2 .loop2 .k) (g .next-block .result) (rowsOf (s .args .deep) (l2 .loop2 .rows8) (l2 .loop2 .rows16)) (rowsOf (s .args .deep) (w .paint-at .last .1 .0) (w .paint-at .last .1 .1 .0)) o (l2 .before .loop-test .taken) (i2 .loop2-test .taken) (g .next-block .ensures) (k .corner .ensures)
-          (w .paint-at .ensures .0 (s .args .place) (toZ-ofZ (sfits-of (v .ok)) ∙ v .ensures)) (l2 .loop2 .inv .1 r o x),
+          next (l .loop .j) (l2 .loop2 .k) (g .next-block .result) (depthRows (s .args .deep) (l2 .loop2 .rows8) (l2 .loop2 .rows16)) (depthRows (s .args .deep) (w .paint-at .last .1 .0) (w .paint-at .last .1 .1 .0)) o (l2 .before .loop-test .taken) (i2 .loop2-test .taken) (g .next-block .ensures) (k .corner .ensures)
+          (w .paint-at .ensures .0 (s .args .preset) (s .args .place) (l .before .before .before .decode-numbers .ensures) (toZ-ofZ (sfits-of (v .ok)) ∙ v .ensures)) (l2 .loop2 .inv .1 r o x),
       w .paint-at .ensures .1 ∙ l2 .loop2 .inv .2,
     )
 
@@ -145,7 +142,7 @@ loop-again c =
     let l2 = c .before in
     let l = l2 .before .before in
     let s = start (l .before) in
-    (omega (arith, l2 .before .loop-test .taken), next-row (l .loop .j) (l2 .loop2 .k) (omega (arith, c .loop2-test .left, l2 .loop2 .inv .0)) (l2 .loop2 .inv .1 (rowsOf (s .args .deep) (s .args .rows8 .now) (s .args .rows16 .now)) (s .pre) (l .loop .inv .1)), l2 .loop2 .inv .2 ∙ l .loop .inv .2)
+    (omega (arith, l2 .before .loop-test .taken), next-row (l .loop .j) (l2 .loop2 .k) (omega (arith, c .loop2-test .left, l2 .loop2 .inv .0)) (l2 .loop2 .inv .1 (depthRows (s .args .deep) (s .args .rows8 .now) (s .args .rows16 .now)) (s .pre) (l .loop .inv .1)), l2 .loop2 .inv .2 ∙ l .loop .inv .2)
 
 dc-end-requires : tie.Need-dc-end-requires Inv-loop2 μ-loop2 Inv-loop μ-loop
 dc-end-requires c κs = let l = c .before in omega (arith, ended (l .loop .j) (start (l .before) .pre) (l .loop .inv .0) (l .loop .inv .1) .0)

@@ -1,9 +1,7 @@
 -- `encoder::by_slice::slice10`: one call of the plane coder after the other.
 use mathlib.Core.Path.{_∙_}
 use Prim.Native.Nat.{_<_}
-use Rattle.calls.specs.Arguments.{ten}
-use Rattle.encplane.specs.Coding.{settings}
-use Rattle.encoder.specs.by_slice.SliceCoding.{rows}
+use Rattle.calls.specs.Arguments.{ten, settings, rows}
 use Rattle.encoder.proofs.by_slice.Slices.{Given, First, ask-0, did-0, ask-1, did-1, ask-2, did-2, ask-3, did-3, whole, at-most}
 use Rattle.encoder.proofs.by_slice.slice10.Statement.{statement}
 use Rattle.encoder.proofs.by_slice.slice10.Tie as tie

@@ -1,9 +1,7 @@
 -- `encoder::by_slice::slice8`: one call of the plane coder after the other.
 use mathlib.Core.Path.{_∙_}
 use Prim.Native.Nat.{_<_}
-use Rattle.calls.specs.Arguments.{eight}
-use Rattle.encplane.specs.Coding.{settings}
-use Rattle.encoder.specs.by_slice.SliceCoding.{rows}
+use Rattle.calls.specs.Arguments.{eight, settings, rows}
 use Rattle.encoder.proofs.by_slice.Slices.{Given, First, ask-0, did-0, ask-1, did-1, ask-2, did-2, ask-3, did-3, whole, at-most, less-than}
 use Rattle.encoder.proofs.by_slice.slice8.Statement.{statement}
 use Rattle.encoder.proofs.by_slice.slice8.Tie as tie

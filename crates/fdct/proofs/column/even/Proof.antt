@@ -1,13 +1,13 @@
--- `fdct::column::even` takes the steps of `evenOf`, one after the other. Assumes nothing.
+-- `fdct::column::even` takes the steps of `forwardEvenOf`, one after the other. Assumes nothing.
 use borrow.Author.Needs.{needs, sfits-of}
 use mathlib.Core.Path.{_∙_, refl}
-use Rattle.fdct.specs.column.Steps.{evenOf}
+use Rattle.fdct.specs.column.Steps.{forwardEvenOf}
 use Rattle.fdct.proofs.column.Step.{step, enter4}
 use Rattle.fdct.proofs.column.even.Statement.{statement}
 use Rattle.fdct.proofs.column.even.Tie as tie
 
 returns : tie.Need-returns
-unfolding evenOf
+unfolding forwardEvenOf
 returns c =
     let d12 = c in
     let d11 = d12 .before in
@@ -37,7 +37,7 @@ returns c =
     step _ (sfits-of (d11 .or1 .ok)) (d11 .or1 .ensures) (
     step _ (sfits-of (d12 .or12 .ok)) (d12 .or12 .ensures) (
     refl)))))))))))))
-    ∙ enter4 (evenOf (s .args .shift)) (s .fits .tp03) (s .fits .tp12) (s .fits .tm03) (s .fits .tm12)
+    ∙ enter4 (forwardEvenOf (s .args .shift)) (s .fits .tp03) (s .fits .tp12) (s .fits .tm03) (s .fits .tm12)
 
 pub even-spec : {M : Type 1} → statement M
 even-spec = tie.close (tie.spec (λ c κs. search needs) (λ c κs. search needs) (λ c κs. search needs) (λ c κs. search needs) (λ c κs. tt) (λ c κs. tt) (λ c κs. tt) (λ c κs. tt) (λ c κs. tt) (λ c κs. tt) (λ c κs. tt) (λ c κs. tt) (λ c κs. tt) returns)

@@ -1,13 +1,13 @@
--- `fdct::column::odd` takes the steps of `oddOf`, one after the other. Assumes nothing.
+-- `fdct::column::odd` takes the steps of `forwardOddOf`, one after the other. Assumes nothing.
 use borrow.Author.Needs.{needs, sfits-of}
 use mathlib.Core.Path.{_∙_, refl}
-use Rattle.fdct.specs.column.Steps.{oddOf}
+use Rattle.fdct.specs.column.Steps.{forwardOddOf}
 use Rattle.fdct.proofs.column.Step.{step, enter4}
 use Rattle.fdct.proofs.column.odd.Statement.{statement}
 use Rattle.fdct.proofs.column.odd.Tie as tie
 
 returns : tie.Need-returns
-unfolding oddOf
+unfolding forwardOddOf
 returns c =
     let d23 = c in
     let d22 = d23 .before in
@@ -59,7 +59,7 @@ returns c =
     step _ (sfits-of (d22 .adds18 .ok)) (d22 .adds18 .ensures) (
     step _ (sfits-of (d23 .subs15 .ok)) (d23 .subs15 .ensures) (
     refl))))))))))))))))))))))))
-    ∙ enter4 (oddOf (s .args .shift)) (s .fits .d0) (s .fits .d1) (s .fits .d2) (s .fits .d3)
+    ∙ enter4 (forwardOddOf (s .args .shift)) (s .fits .d0) (s .fits .d1) (s .fits .d2) (s .fits .d3)
 
 pub odd-spec : {M : Type 1} → statement M
 odd-spec = tie.close (tie.spec (λ c. search needs) (λ c κs. search needs) (λ c κs. search needs) (λ c κs. search needs) (λ c κs. search needs) (λ c κs. tt) (λ c κs. tt) (λ c κs. tt) (λ c κs. tt) (λ c κs. tt) (λ c κs. tt) (λ c κs. tt) (λ c κs. tt) (λ c κs. tt) (λ c κs. tt) (λ c κs. tt) (λ c κs. tt) (λ c κs. tt) (λ c κs. tt) (λ c κs. tt) (λ c κs. tt) (λ c κs. tt) (λ c κs. tt) (λ c κs. tt) (λ c κs. tt) returns)

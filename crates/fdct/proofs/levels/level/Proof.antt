@@ -11,7 +11,7 @@ use mir.Val.{toZ}
 use Rattle.scalar.specs.Scalar.{addsOf}
 use Rattle.scalar.specs.Tab.{tab}
 use Rattle.scalar.proofs.Laws.{back, lane1}
-use Rattle.fdct.specs.levels.Level.{levelAt, levelOf}
+use Rattle.fdct.specs.levels.Level.{levelAt, levelShiftOf}
 use Rattle.fdct.proofs.levels.level.Statement.{statement}
 use Rattle.fdct.proofs.levels.level.Tie as tie
 
@@ -30,7 +30,7 @@ loop-again c =
     (lane1 (λ (z : ℤ). addsOf z (back w16 (a .add))) (sfits-of (e .adds1-arg .given)) (sfits-of (c .adds1 .ok)) (c .adds1 .ensures))
 
 returns : tie.Need-returns Inv-loop μ-loop
-unfolding levelOf
+unfolding levelShiftOf
 returns c =
     let l = c .before in
     let s = l .before in

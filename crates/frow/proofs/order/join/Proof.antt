@@ -9,7 +9,7 @@ use native.Mathlib.Omega.{arith}
 use mir.Facts.{toZ-ofZ}
 use Rattle.scalar.proofs.Fill.{Filled}
 use Rattle.scalar.proofs.InRows.{InRow, row-begins, row-next, row-ends, rows-done}
-use Rattle.frow.specs.order.Order.{joinAt, joinOf}
+use Rattle.frow.specs.order.Order.{joinAt, forwardJoinOf}
 use Rattle.frow.proofs.order.Places.{even-place, odd-place}
 use Rattle.frow.proofs.order.join.Statement.{statement}
 use Rattle.frow.proofs.order.join.Tie as tie
@@ -55,7 +55,7 @@ loop-again c =
     row-ends (joinAt (l .before .args .t1) (l .before .args .t2)) (j .loop2 .w) (l .loop .r) (j .loop2 .k) (c .loop2-test .left) (j .loop2 .inv)
 
 returns : tie.Need-returns Inv-loop2 μ-loop2 Inv-loop μ-loop
-unfolding joinOf
+unfolding forwardJoinOf
 returns c =
     let l = c .before in
     rows-done (joinAt (l .before .args .t1) (l .before .args .t2)) (l .loop .w) (l .loop .r) (c .loop-test .left) (l .loop .inv)

@@ -6,7 +6,7 @@ use native.Mathlib.Omega.{arith}
 use mir.Facts.{toZ-ofZ}
 use Rattle.scalar.proofs.Fill.{Filled}
 use Rattle.scalar.proofs.InRows.{InRow, row-begins, row-next, row-ends, rows-done}
-use Rattle.frow.specs.order.Order.{mirrorAt, mirrorOf}
+use Rattle.frow.specs.order.Order.{mirrorAt, forwardMirrorOf}
 use Rattle.frow.proofs.order.Places.{mirror-place}
 use Rattle.frow.proofs.order.mirror.Statement.{statement}
 use Rattle.frow.proofs.order.mirror.Tie as tie
@@ -48,7 +48,7 @@ loop-again c =
     row-ends (mirrorAt (l .before .args .t1)) (j .loop2 .x) (l .loop .r) (j .loop2 .k) (c .loop2-test .left) (j .loop2 .inv)
 
 returns : tie.Need-returns Inv-loop2 μ-loop2 Inv-loop μ-loop
-unfolding mirrorOf
+unfolding forwardMirrorOf
 returns c =
     let l = c .before in
     rows-done (mirrorAt (l .before .args .t1)) (l .loop .x) (l .loop .r) (c .loop-test .left) (l .loop .inv)

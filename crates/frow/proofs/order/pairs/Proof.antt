@@ -7,7 +7,7 @@ use Rattle.scalar.proofs.Fill.{Filled, filled-next, filled-done}
 use lib.IntN.{ℤ, _*ℤ_, +ℤ-comm}
 use Rattle.scalar.specs.Scalar.{wrap32, maddOf}
 use Rattle.scalar.proofs.Laws.{lane4}
-use Rattle.frow.specs.order.Order.{pairAt, pairsOf}
+use Rattle.frow.specs.order.Order.{pairAt, forwardPairsOf}
 use Rattle.frow.proofs.order.pairs.Statement.{statement}
 use Rattle.frow.proofs.order.pairs.Tie as tie
 
@@ -34,7 +34,7 @@ loop-again c =
     ∙ swapped _ _ _ _)
 
 returns : tie.Need-returns Inv-loop μ-loop
-unfolding pairsOf
+unfolding forwardPairsOf
 returns c =
     let l = c .before in
     filled-done 32 (pairAt (l .before .args .t1) (l .before .args .t2)) (l .loop .m) (l .loop .i) (omega arith) (l .loop .inv)

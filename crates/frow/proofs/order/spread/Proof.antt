@@ -6,7 +6,7 @@ use native.Mathlib.Omega.{arith}
 use mir.Facts.{toZ-ofZ}
 use Rattle.scalar.proofs.Fill.{Filled}
 use Rattle.scalar.proofs.InRows.{InRow, row-begins, row-next, row-ends, rows-done}
-use Rattle.frow.specs.order.Order.{spreadAt, spreadOf}
+use Rattle.frow.specs.order.Order.{spreadAt, forwardSpreadOf}
 use Rattle.frow.proofs.order.Places.{spread-place}
 use Rattle.frow.proofs.order.spread.Statement.{statement}
 use Rattle.frow.proofs.order.spread.Tie as tie
@@ -49,7 +49,7 @@ loop-again c =
     row-ends (spreadAt (l .before .args .t1) (l .before .args .from)) (j .loop2 .x) (l .loop .r) (j .loop2 .k) (c .loop2-test .left) (j .loop2 .inv)
 
 returns : tie.Need-returns Inv-loop2 μ-loop2 Inv-loop μ-loop
-unfolding spreadOf
+unfolding forwardSpreadOf
 returns c =
     let l = c .before in
     rows-done (spreadAt (l .before .args .t1) (l .before .args .from)) (l .loop .x) (l .loop .r) (c .loop-test .left) (l .loop .inv)

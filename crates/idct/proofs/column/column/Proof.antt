@@ -1,13 +1,13 @@
 use borrow.Author.Needs.{needs, sfits-of}
 use mathlib.Core.Path.{_∙_}
 use mir.Facts.{toZ-ofZ}
-use Rattle.idct.specs.column.Steps.{sumOf, diffOf, joinOf}
+use Rattle.idct.specs.column.Steps.{inverseSumOf, inverseDiffOf, inverseJoinOf}
 use Rattle.idct.proofs.column.Line.{lane3, eight, joined}
 use Rattle.idct.proofs.column.column.Statement.{statement}
 use Rattle.idct.proofs.column.column.Tie as tie
 
 returns : tie.Need-returns
-unfolding joinOf
+unfolding inverseJoinOf
 returns c =
     let q7 = c in
     let q6 = q7 .before .before .before in
@@ -22,14 +22,14 @@ returns c =
     let s = o .before in
     let a = s .args in
     eight
-    (lane3 (sumOf (a .shift)) (s .fits .level) (sfits-of (q0 .before .before .struct-told .given .0 .1)) (sfits-of (q0 .before .struct-told2 .given .0 .1)) (sfits-of (q0 .sum-out .ok)) (q0 .sum-out .ensures))
-    (lane3 (sumOf (a .shift)) (s .fits .level) (sfits-of (q1 .before .before .struct-told3 .given .1 .0 .1)) (sfits-of (q1 .before .struct-told4 .given .1 .0 .1)) (sfits-of (q1 .sum-out2 .ok)) (q1 .sum-out2 .ensures))
-    (lane3 (sumOf (a .shift)) (s .fits .level) (sfits-of (q2 .before .before .struct-told5 .given .1 .1 .0 .1)) (sfits-of (q2 .before .struct-told6 .given .1 .1 .0 .1)) (sfits-of (q2 .sum-out3 .ok)) (q2 .sum-out3 .ensures))
-    (lane3 (sumOf (a .shift)) (s .fits .level) (sfits-of (q3 .before .before .struct-told7 .given .1 .1 .1 .0 .1)) (sfits-of (q3 .before .struct-told8 .given .1 .1 .1 .0 .1)) (sfits-of (q3 .sum-out4 .ok)) (q3 .sum-out4 .ensures))
-    (lane3 (diffOf (a .shift)) (s .fits .level) (sfits-of (q4 .before .before .struct-told9 .given .1 .1 .1 .0 .1)) (sfits-of (q4 .before .struct-told10 .given .1 .1 .1 .0 .1)) (sfits-of (q4 .diff-out .ok)) (q4 .diff-out .ensures))
-    (lane3 (diffOf (a .shift)) (s .fits .level) (sfits-of (q5 .before .before .struct-told11 .given .1 .1 .0 .1)) (sfits-of (q5 .before .struct-told12 .given .1 .1 .0 .1)) (sfits-of (q5 .diff-out2 .ok)) (q5 .diff-out2 .ensures))
-    (lane3 (diffOf (a .shift)) (s .fits .level) (sfits-of (q6 .before .before .struct-told13 .given .1 .0 .1)) (sfits-of (q6 .before .struct-told14 .given .1 .0 .1)) (sfits-of (q6 .diff-out3 .ok)) (q6 .diff-out3 .ensures))
-    (lane3 (diffOf (a .shift)) (s .fits .level) (sfits-of (q7 .before .before .struct-told15 .given .0 .1)) (sfits-of (q7 .before .struct-told16 .given .0 .1)) (sfits-of (q7 .diff-out4 .ok)) (q7 .diff-out4 .ensures))
+    (lane3 (inverseSumOf (a .shift)) (s .fits .level) (sfits-of (q0 .before .before .struct-told .given .0 .1)) (sfits-of (q0 .before .struct-told2 .given .0 .1)) (sfits-of (q0 .sum-out .ok)) (q0 .sum-out .ensures))
+    (lane3 (inverseSumOf (a .shift)) (s .fits .level) (sfits-of (q1 .before .before .struct-told3 .given .1 .0 .1)) (sfits-of (q1 .before .struct-told4 .given .1 .0 .1)) (sfits-of (q1 .sum-out2 .ok)) (q1 .sum-out2 .ensures))
+    (lane3 (inverseSumOf (a .shift)) (s .fits .level) (sfits-of (q2 .before .before .struct-told5 .given .1 .1 .0 .1)) (sfits-of (q2 .before .struct-told6 .given .1 .1 .0 .1)) (sfits-of (q2 .sum-out3 .ok)) (q2 .sum-out3 .ensures))
+    (lane3 (inverseSumOf (a .shift)) (s .fits .level) (sfits-of (q3 .before .before .struct-told7 .given .1 .1 .1 .0 .1)) (sfits-of (q3 .before .struct-told8 .given .1 .1 .1 .0 .1)) (sfits-of (q3 .sum-out4 .ok)) (q3 .sum-out4 .ensures))
+    (lane3 (inverseDiffOf (a .shift)) (s .fits .level) (sfits-of (q4 .before .before .struct-told9 .given .1 .1 .1 .0 .1)) (sfits-of (q4 .before .struct-told10 .given .1 .1 .1 .0 .1)) (sfits-of (q4 .diff-out .ok)) (q4 .diff-out .ensures))
+    (lane3 (inverseDiffOf (a .shift)) (s .fits .level) (sfits-of (q5 .before .before .struct-told11 .given .1 .1 .0 .1)) (sfits-of (q5 .before .struct-told12 .given .1 .1 .0 .1)) (sfits-of (q5 .diff-out2 .ok)) (q5 .diff-out2 .ensures))
+    (lane3 (inverseDiffOf (a .shift)) (s .fits .level) (sfits-of (q6 .before .before .struct-told13 .given .1 .0 .1)) (sfits-of (q6 .before .struct-told14 .given .1 .0 .1)) (sfits-of (q6 .diff-out3 .ok)) (q6 .diff-out3 .ensures))
+    (lane3 (inverseDiffOf (a .shift)) (s .fits .level) (sfits-of (q7 .before .before .struct-told15 .given .0 .1)) (sfits-of (q7 .before .struct-told16 .given .0 .1)) (sfits-of (q7 .diff-out4 .ok)) (q7 .diff-out4 .ensures))
     ∙ joined (a .round) (a .corr) (a .shift) (a .level) (a .x0) (a .x1) (a .x2) (a .x3) (a .x4) (a .x5) (a .x6) (a .x7)
     (rw (toZ-ofZ (s .fits .x1), toZ-ofZ (s .fits .x3), toZ-ofZ (s .fits .x5), toZ-ofZ (s .fits .x7)) at (o .odd .ensures))
     (rw (toZ-ofZ (s .fits .round), toZ-ofZ (s .fits .corr), toZ-ofZ (s .fits .x0), toZ-ofZ (s .fits .x2), toZ-ofZ (s .fits .x4), toZ-ofZ (s .fits .x6)) at (e .even .ensures))

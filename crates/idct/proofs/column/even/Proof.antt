@@ -3,13 +3,13 @@ use mathlib.Core.Path.{refl}
 use lib.Dec.{lit≤}
 use mir.Facts.{toZ-ofZ}
 use Rattle.scalar.specs.Scalar.{addsOf, mulhiOf, subsOf}
-use Rattle.idct.specs.column.Steps.{evenOf}
+use Rattle.idct.specs.column.Steps.{inverseEvenOf}
 use Rattle.idct.proofs.column.Line.{step}
 use Rattle.idct.proofs.column.even.Statement.{statement}
 use Rattle.idct.proofs.column.even.Tie as tie
 
 returns : tie.Need-returns
-unfolding evenOf
+unfolding inverseEvenOf
 returns c =
     let d13 = c in
     let d12 = d13 .before in

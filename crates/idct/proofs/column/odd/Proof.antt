@@ -3,13 +3,13 @@ use mathlib.Core.Path.{refl}
 use lib.Dec.{lit≤}
 use mir.Facts.{toZ-ofZ}
 use Rattle.scalar.specs.Scalar.{addsOf, mulhiOf, orOf, subsOf}
-use Rattle.idct.specs.column.Steps.{oddOf}
+use Rattle.idct.specs.column.Steps.{inverseOddOf}
 use Rattle.idct.proofs.column.Line.{step}
 use Rattle.idct.proofs.column.odd.Statement.{statement}
 use Rattle.idct.proofs.column.odd.Tie as tie
 
 returns : tie.Need-returns
-unfolding oddOf
+unfolding inverseOddOf
 returns c =
     let d23 = c in
     let d22 = d23 .before in

@@ -4,12 +4,12 @@ use lib.IntN.{ℤ}
 use mir.Facts.{toZ-ofZ}
 use Rattle.scalar.specs.Scalar.{addsOf, subsOf, sraOf}
 use Rattle.scalar.proofs.Laws.{lane1, lane2}
-use Rattle.idct.specs.column.Steps.{sumOf}
+use Rattle.idct.specs.column.Steps.{inverseSumOf}
 use Rattle.idct.proofs.column.sum_out.Statement.{statement}
 use Rattle.idct.proofs.column.sum_out.Tie as tie
 
 returns : tie.Need-returns
-unfolding sumOf
+unfolding inverseSumOf
 returns c =
     let t = c .before in
     let d = t .before in

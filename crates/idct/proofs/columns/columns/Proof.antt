@@ -9,13 +9,13 @@ use mir.Val.{toZ}
 use mir.Facts.{toZ-ofZ}
 use Rattle.scalar.specs.Tab.{tab}
 use Rattle.scalar.proofs.Laws.{back}
-use Rattle.idct.specs.columns.Columns.{columnAt, columnsOf}
+use Rattle.idct.specs.columns.Columns.{inverseColumnAt, inverseColumnsOf}
 use Rattle.idct.proofs.columns.Turn.{Columned, byColumn, column-turn, column-done}
 use Rattle.idct.proofs.columns.columns.Statement.{statement}
 use Rattle.idct.proofs.columns.columns.Tie as tie
 
 abbrev at : ℤ → ℤ → ℕ → ℤ → List ℤ → ℕ → ℤ
-at round corr shift level w = byColumn (columnAt round corr shift level w)
+at round corr shift level w = byColumn (inverseColumnAt round corr shift level w)
 
 abbrev Inv-loop : tie.InvT-loop
 Inv-loop round corr shift level w p₀ j₀ p j = Columned (at (toZ w16 round) (toZ w16 corr) shift (toZ w16 level) w) p (8 * j)
@@ -32,10 +32,10 @@ loop-again c =
     let n = k .before .before in
     let l = n .before in
     let a = l .before .args in
-    column-turn (columnAt (back w16 (a .round)) (back w16 (a .corr)) (a .shift) (back w16 (a .level)) (a .t1)) (l .loop .p) (l .loop .j) (n .loop-test .taken) (l .loop .inv) (k .column-at .ensures) (c .put-column .ensures)
+    column-turn (inverseColumnAt (back w16 (a .round)) (back w16 (a .corr)) (a .shift) (back w16 (a .level)) (a .t1)) (l .loop .p) (l .loop .j) (n .loop-test .taken) (l .loop .inv) (k .column-at .ensures) (c .put-column .ensures)
 
 returns : tie.Need-returns Inv-loop μ-loop
-unfolding columnsOf
+unfolding inverseColumnsOf
 returns c =
     let l = c .before in
     let s = l .before in

@@ -9,7 +9,7 @@ use Rattle.scalar.specs.Scalar.{maddOf}
 use Rattle.scalar.proofs.Laws.{lane4}
 use Rattle.scalar.proofs.Fill.{Filled, filled-next, filled-done}
 use Rattle.scalar.specs.Tab.{lane}
-use Rattle.irow.specs.pairs.Pairs.{pairsOf}
+use Rattle.irow.specs.pairs.Pairs.{inversePairsOf}
 use Rattle.irow.proofs.pairs.pairs.Statement.{statement}
 use Rattle.irow.proofs.pairs.pairs.Tie as tie
 
@@ -39,7 +39,7 @@ loop-again c =
     (sfits-of (c .madd1 .ok)) (c .madd1 .ensures))
 
 returns : tie.Need-returns Inv-loop μ-loop
-unfolding pairsOf
+unfolding inversePairsOf
 returns c =
     let l = c .before in
     let s = l .before .args in

@@ -9,7 +9,7 @@ use mir.Facts.{toZ-ofZ}
 use Rattle.scalar.specs.Tab.{lane}
 use Rattle.scalar.proofs.Fill.{Filled}
 use Rattle.scalar.proofs.InRows.{InRow, row-of, col-of, row-begins, row-next, row-ends, rows-done}
-use Rattle.irow.specs.pairs.Pairs.{spreadPlace, spreadOf}
+use Rattle.irow.specs.pairs.Pairs.{spreadPlace, inverseSpreadOf}
 use Rattle.irow.proofs.pairs.spread.Statement.{statement}
 use Rattle.irow.proofs.pairs.spread.Tie as tie
 
@@ -56,7 +56,7 @@ loop-again c =
     row-ends (at (l .before .args .a .now) (l .before .args .from)) (j .loop2 .x) (l .loop .r) (j .loop2 .k) (c .loop2-test .left) (j .loop2 .inv)
 
 returns : tie.Need-returns Inv-loop2 μ-loop2 Inv-loop μ-loop
-unfolding spreadOf
+unfolding inverseSpreadOf
 returns c =
     let l = c .before in
     rows-done (at (l .before .args .a .now) (l .before .args .from)) (l .loop .x) (l .loop .r) (c .loop-test .left) (l .loop .inv)

@@ -5,12 +5,12 @@ use mir.Syntax.{w32}
 use mir.Facts.{toZ-ofZ}
 use Rattle.scalar.specs.Scalar.{add32Of}
 use Rattle.scalar.proofs.Laws.{lane2}
-use Rattle.irow.specs.sums.Sums.{evenOf}
+use Rattle.irow.specs.sums.Sums.{evenPartOf}
 use Rattle.irow.proofs.sums.even.Statement.{statement}
 use Rattle.irow.proofs.sums.even.Tie as tie
 
 returns : tie.Need-returns
-unfolding evenOf
+unfolding evenPartOf
 returns c =
     let f = c .before in
     let s = f .before in

@@ -11,12 +11,12 @@ use mir.Val.{toZ}
 use Rattle.scalar.proofs.Laws.{lane4, back}
 use Rattle.scalar.proofs.Fill.{Filled, filled-next, filled-done}
 use Rattle.scalar.specs.Tab.{tab, lane}
-use Rattle.irow.specs.sums.Sums.{laneOf, halfOf}
+use Rattle.irow.specs.sums.Sums.{inverseLaneOf, inverseHalfOf}
 use Rattle.irow.proofs.sums.half.Statement.{statement}
 use Rattle.irow.proofs.sums.half.Tie as tie
 
 abbrev at : Bool → ℤ → ℕ → List ℤ → List ℤ → List ℤ → List ℤ → ℕ → ℤ
-at right round shift m0 m1 m2 m3 i = laneOf right round shift (lane m0 i) (lane m1 i) (lane m2 i) (lane m3 i)
+at right round shift m0 m1 m2 m3 i = inverseLaneOf right round shift (lane m0 i) (lane m1 i) (lane m2 i) (lane m3 i)
 
 abbrev Inv-loop : tie.InvT-loop
 Inv-loop m0 m1 m2 m3 round shift right w₀ i₀ w i = Filled 32 (at right (toZ w32 round) shift m0 m1 m2 m3) w i
@@ -41,11 +41,11 @@ loop-again c =
     let s = l .before in
     let a = s .args in
     filled-next 32 (at (a .right) (back w32 (a .round)) (a .shift) (a .m0 .now) (a .m1 .now) (a .m2 .now) (a .m3 .now)) (l .loop .w) (l .loop .i) (n .loop-test .taken) (l .loop .inv)
-    (lane4 {v = w16} {w = w32} (laneOf (a .right) (back w32 (a .round)) (a .shift)) (sfits-of (a1 .lane-arg .given)) (sfits-of (a2 .lane-arg2 .given)) (sfits-of (a3 .lane-arg3 .given)) (sfits-of (a4 .lane-arg4 .given))
+    (lane4 {v = w16} {w = w32} (inverseLaneOf (a .right) (back w32 (a .round)) (a .shift)) (sfits-of (a1 .lane-arg .given)) (sfits-of (a2 .lane-arg2 .given)) (sfits-of (a3 .lane-arg3 .given)) (sfits-of (a4 .lane-arg4 .given))
     (sfits-of (c .lane .ok)) (c .lane .ensures))
 
 returns : tie.Need-returns Inv-loop μ-loop
-unfolding halfOf
+unfolding inverseHalfOf
 returns c =
     let l = c .before in
     let s = l .before in

@@ -1,13 +1,13 @@
 use borrow.Author.Needs.{needs, sfits-of}
 use mathlib.Core.Path.{_∙_}
 use mir.Facts.{toZ-ofZ}
-use Rattle.irow.specs.sums.Sums.{joinedOf, laneOf}
+use Rattle.irow.specs.sums.Sums.{joinedOf, inverseLaneOf}
 use Rattle.irow.proofs.sums.Sums.{lane-steps}
 use Rattle.irow.proofs.sums.lane.Statement.{statement}
 use Rattle.irow.proofs.sums.lane.Tie as tie
 
 returns : tie.Need-returns
-unfolding laneOf
+unfolding inverseLaneOf
 returns c =
     let sr = c .before in
     let p = sr .before in

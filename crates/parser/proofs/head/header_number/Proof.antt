@@ -1,93 +1,50 @@
--- `parser::head::header_number`: each return is the first "no".
+-- `parser::head::header_number`: the two questions before any byte is read, then those about the bytes.
 use borrow.Author.Needs.{needs}
-use mathlib.Core.Path.{_≡_, sym, _∙_}
-use native.Mathlib.Omega.{arith}
-use Rattle.layout.proofs.Laws.{sized}
-use Rattle.parser.proofs.head.Laws.{no-size, no-five, no-format, above-three, no-shift, no-count, all-yes}
+use mathlib.Core.Path.{_≡_, sym, _∙_, ap₂}
+use mathlib.Core.Bool.{Bool}
+use Prim.Native.Nat.{ℕ}
+use Rattle.ask.specs.Ask.{orElse, firstNo}
+use Rattle.ask.specs.Numbers.{noSize}
+use Rattle.parser.specs.head.Header.{Legal}
+use Rattle.parser.proofs.head.Laws.{beforeBytes, first-two, after-two, two-legal}
 use Rattle.parser.proofs.head.header_number.Statement.{statement}
 use Rattle.parser.proofs.head.header_number.Tie as tie
+
+abbrev start : tie.After-or-else2 → tie.Start
+start t = t .before .before .before .before
+
+two : (t : tie.After-or-else2) → t .or-else2 .result ≡ firstNo (beforeBytes (start t .args .width) (start t .args .height) (start t .args .f .now))
+unfolding firstNo
+two t =
+    t .or-else2 .ensures
+    ∙ ap₂ (λ (b : Bool) (n : ℕ). orElse b noSize n) (t .before .before .size-ok .ensures) (t .before .or-else .ensures)
 
 returns : tie.Need-returns
 returns c =
     let t = c .before in
-    let a = t .before .before .before .args in
-    sym (no-five (a .width) (a .height) (a .f .now) (sym (t .before .size-ok .ensures) ∙ t .if1 .taken) (c .if2 .taken))
+    let a = start t .args in
+    first-two (a .width) (a .height) (a .f .now) (two t) (c .if1 .taken)
+
+byte-number-requires : tie.Need-byte-number-requires
+byte-number-requires c κs =
+    let t = c .before in
+    let a = start t .args in
+    let l = two-legal (a .width) (a .height) (a .f .now) (two t) (c .if1 .left) in
+    (l .five, l .high)
 
 returns-2 : tie.Need-returns-2
 returns-2 c =
-    let e = c .before .before in
-    let t = e .before in
-    let a = t .before .before .before .args in
-    sym (no-format (a .width) (a .height) (a .f .now) (sym (t .before .size-ok .ensures) ∙ t .if1 .taken) (e .if2 .left) (c .if3 .taken))
-
-returns-3 : tie.Need-returns-3
-returns-3 c =
-    let e = c .before .before .before .before in
-    let t = e .before in
-    let a = t .before .before .before .args in
-    sym (above-three (a .width) (a .height) (a .f .now) (sym (t .before .size-ok .ensures) ∙ t .if1 .taken) (e .if2 .left) (c .if4 .taken))
-
-returns-4 : tie.Need-returns-4
-returns-4 c =
-    let e4 = c .before .before in
-    let e3 = e4 .before .before in
-    let e = e3 .before .before in
-    let t = e .before in
-    let a = t .before .before .before .args in
-    sym
-    (no-shift (a .width) (a .height) (a .f .now) (sym (t .before .size-ok .ensures) ∙ t .if1 .taken) (e .if2 .left) (e3 .if3 .left) (e4 .if4 .left) (omega arith))
-
-count-ok-requires : tie.Need-count-ok-requires
-count-ok-requires c κs =
-    let e4 = c .before .before in
-    let e3 = e4 .before .before in
-    let e = e3 .before .before in
-    let t = e .before in
-    let a = t .before .before .before .args in
-    (search needs, sized (a .width) (a .height) (sym (t .before .size-ok .ensures) ∙ t .if1 .taken) .high)
-
-returns-5 : tie.Need-returns-5
-returns-5 c =
-    let e5 = c .before .before in
-    let e4 = e5 .before .before in
-    let e3 = e4 .before .before in
-    let e = e3 .before .before in
-    let t = e .before in
-    let a = t .before .before .before .args in
-    sym
-    (all-yes (a .width) (a .height) (a .f .now) (sym (t .before .size-ok .ensures) ∙ t .if1 .taken) (e .if2 .left) (e3 .if3 .left) (e4 .if4 .left) (omega arith)
-    (sym (c .before .count-ok .ensures) ∙ c .if6 .taken))
-
-returns-6 : tie.Need-returns-6
-returns-6 c =
-    let e5 = c .before .before in
-    let e4 = e5 .before .before in
-    let e3 = e4 .before .before in
-    let e = e3 .before .before in
-    let t = e .before in
-    let a = t .before .before .before .args in
-    sym
-    (no-count (a .width) (a .height) (a .f .now) (sym (t .before .size-ok .ensures) ∙ t .if1 .taken) (e .if2 .left) (e3 .if3 .left) (e4 .if4 .left) (omega arith)
-    (sym (c .before .count-ok .ensures) ∙ c .if6 .left))
-
-returns-7 : tie.Need-returns-7
-returns-7 c =
-    let a = c .before .before .before .args in
-    sym (no-size (a .width) (a .height) (a .f .now) (sym (c .before .size-ok .ensures) ∙ c .if1 .left))
+    let t = c .before .before in
+    let a = start t .args in
+    c .byte-number .ensures ∙ sym (after-two (a .width) (a .height) (a .f .now) (two t) (c .before .if1 .left))
 
 pub header-number-spec : {M : Type 1} → statement M
 header-number-spec =
     tie.close
     (tie.spec
     (λ c κs. search needs)
-    returns
-    (λ c. search needs)
-    returns-2
-    (λ c. search needs)
-    returns-3
     (λ c κs. search needs)
-    returns-4
-    count-ok-requires
-    returns-5
-    returns-6
-    returns-7)
+    (λ c κs. search needs)
+    returns
+    byte-number-requires
+    returns-2)

@@ -5,7 +5,7 @@ use native.Mathlib.Omega.{arith}
 use borrow.Author.Needs.{sfits-of}
 use mir.Facts.{toZ-ofZ}
 use lib.IntN.{natAbs}
-use Rattle.tables.specs.Reciprocal.{high, twoHigh}
+use Rattle.tables.specs.Reciprocal.{highHalf, twoHigh}
 use Rattle.quant.specs.one.Sign.{withSign}
 use Rattle.quant.proofs.one.Signs.{magnitude-small}
 use Rattle.quant.proofs.one.quant1.Statement.{statement}
@@ -24,7 +24,7 @@ chain : (c : tie.After-mulhi-u2) → c .mulhi-u2 .result
 chain c =
     let a = c .before .before .before .args in
     c .mulhi-u2 .ensures
-    ∙ ap (λ (v : ℕ). high v (a .s)) (c .before .mulhi-u .ensures ∙ ap (λ (v : ℕ). high (v + a .c) (a .r)) (known (c .before .before)))
+    ∙ ap (λ (v : ℕ). highHalf v (a .s)) (c .before .mulhi-u .ensures ∙ ap (λ (v : ℕ). highHalf (v + a .c) (a .r)) (known (c .before .before)))
 
 magnitude-requires : tie.Need-magnitude-requires
 magnitude-requires c κs = search needs

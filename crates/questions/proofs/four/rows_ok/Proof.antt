@@ -13,17 +13,25 @@ returns c =
     let b2 = b3 .before in
     let b1 = b2 .before in
     let b0 = b1 .before in
-    let n = b0 .before .args .count in
+    let n = b0 .before .before .args .f .count in
     c .all-ok .ensures
-    ∙ (λ i. allOf (take (b0 .before .args .count) (b0 .rows-ok .ensures i ∷ b1 .rows-ok2 .ensures i ∷ b2 .rows-ok3 .ensures i ∷ b3 .rows-ok4 .ensures i ∷ [])))
+    ∙ (λ i. allOf (take n (b0 .rows-ok .ensures i ∷ b1 .rows-ok2 .ensures i ∷ b2 .rows-ok3 .ensures i ∷ b3 .rows-ok4 .ensures i ∷ [])))
 
 pub rows-ok-spec : {M : Type 1} → statement M
 rows-ok-spec =
     tie.close
     (tie.spec
+    (λ c. search needs)
+    (λ c. search needs)
     (λ c κs. search needs)
+    (λ c. search needs)
+    (λ c. search needs)
     (λ c κs. search needs)
+    (λ c. search needs)
+    (λ c. search needs)
     (λ c κs. search needs)
+    (λ c. search needs)
+    (λ c. search needs)
     (λ c κs. search needs)
     (λ c κs. search needs)
     returns)

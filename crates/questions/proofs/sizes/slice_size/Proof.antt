@@ -1,51 +1,36 @@
 -- `questions::sizes::slice_size`.
 use borrow.Author.Needs.{needs}
-use borrow.Author.Tests.{not-true, not-false}
-use mathlib.Core.Path.{_≡_, sym, _∙_}
-use mathlib.Core.Bool.{true}
-use mathlib.Core.List.{[], _∷_}
-use lib.ListN.{take}
-use native.Mathlib.Omega.{arith}
+use mathlib.Core.Path.{_≡_}
 use Prim.Native.Nat.{_≤_}
-use Rattle.calls.specs.Questions.{strideOk, countOk}
-use Rattle.questions.specs.four.Firsts.{allOf}
-use Rattle.questions.proofs.sizes.Laws.{no-count, no-strides, slice-yes, slice-columns}
+use native.Mathlib.Omega.{arith}
+use Rattle.calls.specs.Views.{strideBy}
+use Rattle.questions.proofs.sizes.Laws.{slice-refused, slice-sized, slice-columns}
 use Rattle.questions.proofs.sizes.slice_size.Statement.{statement}
 use Rattle.questions.proofs.sizes.slice_size.Tie as tie
 
-counted : (c : tie.Else1) → countOk (c .before .before .args .count) ≡ true
-counted c = sym (c .before .count-ok .ensures) ∙ not-false _ (c .if1 .left)
+returns : tie.Need-returns
+returns c = let f = c .before .before .args .f in slice-refused (f .count) (strideBy f 0) (strideBy f 1) (strideBy f 2) (strideBy f 3) (c .before .slice-number .ensures) (c .if1 .taken)
 
-legal : (c : tie.Else2) → let a = c .before .before .before .before .args in
-    allOf (take (a .count) (strideOk (a .s0) ∷ strideOk (a .s1) ∷ strideOk (a .s2) ∷ strideOk (a .s3) ∷ [])) ≡ true
-legal c = sym (c .before .strides-ok .ensures) ∙ not-false _ (c .if2 .left)
+accepted : (c : tie.Else1) → c .before .slice-number .result ≡ 0
+accepted c = omega (arith, c .if1 .left)
 
 few : (c : tie.After-columns) → c .columns .result ≤ 3840
-few c = let a = c .before .before .before .before .before .args in slice-columns (a .count) (a .s0) (a .s1) (a .s2) (a .s3) (legal (c .before)) (c .columns .ensures)
+few c =
+    let e = c .before in
+    let f = e .before .before .args .f in
+    slice-columns (f .count) (strideBy f 0) (strideBy f 1) (strideBy f 2) (strideBy f 3) (e .before .slice-number .ensures) (c .columns .ensures) (accepted e)
 
-returns : tie.Need-returns
-returns c =
-    let a = c .before .before .args in
-    no-count (a .count) (a .s0) (a .s1) (a .s2) (a .s3) (sym (c .before .count-ok .ensures) ∙ not-true _ (c .if1 .taken))
+mul-t5 : tie.Need-mul-t5
+mul-t5 c = record { fits = omega (arith, few c) }
+
+mul-t6 : tie.Need-mul-t6
+mul-t6 c = record { fits = omega (arith, few c) }
 
 returns-2 : tie.Need-returns-2
 returns-2 c =
-    let a = c .before .before .before .before .args in
-    no-strides (a .count) (a .s0) (a .s1) (a .s2) (a .s3) (counted (c .before .before)) (sym (c .before .strides-ok .ensures) ∙ not-true _ (c .if2 .taken))
-
-mul-t9 : tie.Need-mul-t9
-mul-t9 c = record { fits = omega (arith, few c) }
-
-mul-t10 : tie.Need-mul-t10
-mul-t10 c = record { fits = omega (arith, few c) }
-
-returns-3 : tie.Need-returns-3
-returns-3 c =
-    let e2 = c .before in
-    let a = e2 .before .before .before .before .args in
-    slice-yes (a .count) (a .s0) (a .s1) (a .s2) (a .s3) (counted (e2 .before .before)) (legal e2) (c .columns .ensures)
+    let e = c .before in
+    let f = e .before .before .args .f in
+    slice-sized (f .count) (strideBy f 0) (strideBy f 1) (strideBy f 2) (strideBy f 3) (e .before .slice-number .ensures) (c .columns .ensures) (accepted e)
 
 pub slice-size-spec : {M : Type 1} → statement M
-slice-size-spec =
-    tie.close
-    (tie.spec (λ c κs. search needs) returns (λ c κs. search needs) returns-2 (λ c κs. search needs) mul-t9 mul-t10 returns-3)
+slice-size-spec = tie.close (tie.spec (λ c κs. search needs) returns (λ c κs. search needs) mul-t5 mul-t6 returns-2)

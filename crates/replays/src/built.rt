@@ -1,0 +1,118 @@
+// Frames that are built stream by stream. A record of 1,120 bytes (oracle/ANSWERS.md): the header's arguments, the streams
+// that are handed over, each call's number, and the frame as the Rust's `write` writes the streams accepted.
+use crate::frames::kind_of;
+use builder::Builder;
+use builder::HeaderAnswer;
+use builder::Shift;
+use builder::streams::StreamAnswer;
+use replay::Record;
+use replay::number;
+use replay::part;
+use replay::position;
+use replay::refusal;
+use replay::size;
+use replay::wide;
+
+pub const LENGTH: usize = 1120;
+
+// The bytes that streams are taken from: 32, repeated.
+fn repeated(b: &Record) -> [u8; 1024] {
+    let mut r = [0u8; 1024];
+    for k in 0..1024 {
+        r[k] = b[96 + k % 32];
+    }
+    r
+}
+
+fn shift_of(named: bool, shift: u32) -> Shift {
+    if named {
+        Shift::Named(shift)
+    } else {
+        Shift::Default
+    }
+}
+
+// The number of the k-th stream's answer, of eight.
+fn number_of(b: &Record, k: usize) -> u32 {
+    if 7 < k {
+        return 255;
+    }
+    refusal(b[34 + 8 * k])
+}
+
+// Hands over the k-th stream.
+fn hand_over(b: &Record, bytes: &[u8], k: usize, s: Builder, out: &mut [u8]) -> StreamAnswer {
+    if 7 < k {
+        return StreamAnswer::Refused(0, s);
+    }
+    let kind = kind_of(b[32 + 8 * k] == 1);
+    let slice = wide(b[33 + 8 * k]);
+    let stream = part(bytes, size(b, 36 + 8 * k), size(b, 38 + 8 * k));
+    builder::streams::put_stream(s, kind, slice, stream, out)
+}
+
+// The answer to the k-th stream: whether its number is the record's, and the state after it.
+struct Handed {
+    same: bool,
+    state: Builder,
+}
+
+fn step(b: &Record, bytes: &[u8], k: usize, s: Builder, out: &mut [u8]) -> Handed {
+    match hand_over(b, bytes, k, s, out) {
+        StreamAnswer::Next(state) => Handed {
+            same: number_of(b, k) == 0,
+            state,
+        },
+        StreamAnswer::Refused(x, state) => Handed {
+            same: number_of(b, k) == x,
+            state,
+        },
+    }
+}
+
+// All streams, and where the last accepted one ends.
+fn streams(b: &Record, bytes: &[u8], started: Builder, out: &mut [u8]) -> bool {
+    let n = size(b, 14);
+    let mut s = started;
+    let mut k = 0;
+    while k < n {
+        let t = step(b, bytes, k, s, out);
+        if !t.same {
+            return false;
+        }
+        s = t.state;
+        k += 1;
+    }
+    s.at == position(b, 24)
+}
+
+// The header and the streams, into a buffer of the record's length.
+fn frame(b: &Record, out: &mut [u8]) -> bool {
+    let shift = shift_of(size(b, 8) == 1, replay::widened(number(b, 10)));
+    match builder::start_frame(
+        size(b, 0),
+        size(b, 2),
+        b[4] == 1,
+        b[5],
+        shift,
+        out,
+        position(b, 16),
+    ) {
+        HeaderAnswer::Refused(x) => x == refusal(b[6]),
+        HeaderAnswer::Started(s) => {
+            if b[6] != 0 {
+                return false;
+            }
+            let bytes = repeated(b);
+            streams(b, &bytes, s, out)
+        }
+    }
+}
+
+pub fn holds(b: &Record) -> bool {
+    let mut out = [b[7]; 1100];
+    let start = position(b, 16);
+    let end = position(b, 24);
+    let ok = frame(b, replay::cut(&mut out, size(b, 12)));
+    ok && replay::holds_stored(&out, b[7], start, end, part(b, 128, 992))
+}
