@@ -7,6 +7,7 @@
 """
 import re
 import sys
+from functools import lru_cache
 from itertools import zip_longest
 
 sys.dont_write_bytecode = True
@@ -176,6 +177,20 @@ def missing_files(line):
             yield f"there is no {name}"
 
 
+@lru_cache(None)
+def words_of_crates():
+    files = [*CRATES.glob("**/*.antt"), *CRATES.glob("**/*.rt")]
+    return {word for file in files for word in re.findall(r"[\w'-]+", read(file))}
+
+
+def unknown_names():
+    """What a table of promises names is a word of the crates."""
+    for number, line in enumerate(read(PROMISES).split("\n"), 1):
+        for text in re.findall(r"`([^`]+)`", line) if line.startswith("|") else []:
+            for word in set(re.findall(r"[^\W\d][\w'-]*", text)) - words_of_crates():
+                yield f"docs/PROMISES.md:{number}: nothing is called {word}"
+
+
 # ---- contracts
 
 
@@ -209,7 +224,7 @@ def main(words):
         read.cache_clear()
     page, problems = promises_page()
     problems += [*differs(PROMISES, page), *differs(TRUSTED, trusted_page()), *too_long(DECISIONS, 2500)]
-    problems += [*edit_problems(), *crate_problems(), *naming_problems(), *long_contract_lines()]
+    problems += [*edit_problems(), *crate_problems(), *naming_problems(), *unknown_names(), *long_contract_lines()]
     for problem in problems:
         print(f"documents: {problem}")
     print(f"documents: {len(problems)} problems" if problems else "documents: all as the tree has it")
