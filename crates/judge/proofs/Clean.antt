@@ -13,11 +13,11 @@ use Rattle.bitreader.specs.scan.Six.{noSixZeros}
 use Rattle.bitreader.proofs.scan.Codes.{SymbolTo, DcTo, symbol-to, code-to, no-symbol, no-dc}
 use Rattle.calls.specs.ReadPlane.{Blocks, badBlocks, blocks, readBlocks, DcSteps, badSteps, dcSteps, readSteps}
 use Rattle.calls.specs.Grid.{blocksOf}
-use Rattle.blockread.specs.dc.Steps.{dcEnd}
-use Rattle.preview.proofs.Ends.{StepsTo, steps-to}
 use Rattle.acread.specs.through.Through.{acEnd}
 use Rattle.acread.proofs.through.Ends.{BlocksTo, blocks-to}
 use Rattle.judge.specs.Good.{dcPlane, acPlane}
+use Rattle.acread.specs.through.Codes.{dcEnd}
+use Rattle.acread.proofs.through.CodesEnd.{StepsTo, steps-to}
 
 abbrev pub AnswerTo : Type 0 → ℕ → ℕ → Answer ℕ → Type 0
 AnswerTo B a b (refused n) = B

@@ -14,11 +14,11 @@ use Rattle.calls.specs.Grid.{blocksOf}
 use Rattle.calls.specs.Questions.{each}
 use Rattle.slice.specs.Calls.{PlanesRead, badPlanes, planesRead, planeThen, byPlane, readPlanes}
 use Rattle.calls.proofs.Asked.{and-l, and-r, stride-le}
-use Rattle.blockread.specs.dc.Steps.{goodSteps, dcEnd}
 use Rattle.acread.specs.through.Through.{blockEnds, goodEnds, acEnd}
 use Rattle.blockread.specs.On.{goodPlane}
 use Rattle.judge.specs.Good.{goodPlanes, strides, dcPlane, acPlane, goesOn, goodInTurn}
 use Rattle.ask.specs.Limits.{strideOk}
+use Rattle.acread.specs.through.Codes.{goodSteps, dcEnd}
 
 and-none : (x : Bool) → false ≡ (x && false)
 and-none true = refl

@@ -8,8 +8,8 @@ use Rattle.calls.specs.Arguments.{Plane}
 use Rattle.calls.specs.ReadPlane.{readSteps, readBlocks}
 use Rattle.calls.specs.Grid.{blocksOf}
 use Rattle.slice.specs.Calls.{PlanesRead, badPlanes, planesRead}
-use Rattle.blockread.specs.dc.Steps.{dcEnd}
 use Rattle.acread.specs.through.Through.{acEnd}
+use Rattle.acread.specs.through.Codes.{dcEnd}
 
 -- no bad code in any of the planes read
 abbrev pub goodPlanes : PlanesRead → Bool

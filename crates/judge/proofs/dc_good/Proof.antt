@@ -5,13 +5,13 @@ use Prim.Native.Nat.{_-_, _≤_}
 use native.Mathlib.Omega.{arith}
 use lib.ListN.{take}
 use borrow.Author.Needs.{needs}
-use Rattle.preview.specs.Answer.{endSays}
 use Rattle.preview.specs.declared.PlaneEnd.the-variants as plane
 use Rattle.judge.specs.Good.{dcPlane}
 use Rattle.judge.proofs.Clean.{dc-spans, dc-clean}
 use Rattle.judge.proofs.Turns.{clean-good, Turns, turns-start, turns-over, turns-bad, turns-next, one-more, fewer-left, below-four, turn-fits, still-near, of-byte, columns-of, first-length, first-at}
 use Rattle.judge.proofs.dc_good.Statement.{statement}
 use Rattle.judge.proofs.dc_good.Tie as tie
+use Rattle.acread.specs.through.Through.{endSays}
 
 abbrev Inv-loop : tie.InvT-loop
 Inv-loop dc d count stride0 stride1 stride2 stride3 at₀ k₀ at k = (k ≤ count) × Turns (dcPlane dc) (take count (stride0 ∷ stride1 ∷ stride2 ∷ stride3 ∷ [])) d k at
