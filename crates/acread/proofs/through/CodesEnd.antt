@@ -10,7 +10,7 @@ use Rattle.bits.specs.Read.{DcCode, badDc, zeroStep, step, readDc}
 use Rattle.bitreader.specs.scan.Six.{noSixZeros}
 use Rattle.bitreader.proofs.scan.Codes.{DcTo, no-dc}
 use Rattle.calls.specs.ReadPlane.{DcStep, keep, replace, DcSteps, badSteps, dcSteps, stepThen, byDcCode, readSteps}
-use Rattle.blockread.specs.dc.Steps.{goodSteps}
+use Rattle.acread.specs.through.Codes.{goodSteps}
 
 abbrev pub StepsTo : Type 0 → ℕ → ℕ → DcSteps → Type 0
 StepsTo B a b badSteps = B

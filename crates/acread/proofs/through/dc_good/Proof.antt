@@ -1,16 +1,16 @@
--- `preview::plane_good`: clean by the scan, or by the answer of the read-through.
+-- `acread::through::dc_good`: clean by the scan, or by the answer of the read-through.
 use mathlib.Core.Path.{_≡_, sym, ap, _∙_}
 use Prim.Native.Nat.{_*_}
 use native.Mathlib.Omega.{arith}
 use borrow.Author.Needs.{needs}
 use Rattle.bits.specs.Bits.{bitAt}
 use Rattle.calls.specs.ReadPlane.{readSteps}
-use Rattle.preview.specs.Answer.{endSays}
-use Rattle.preview.specs.declared.PlaneEnd.the-variants as plane
-use Rattle.preview.proofs.row.Rows.{good-end, bad-end}
-use Rattle.preview.proofs.Ends.{clean-steps}
-use Rattle.preview.proofs.plane_good.Statement.{statement}
-use Rattle.preview.proofs.plane_good.Tie as tie
+use Rattle.acread.specs.declared.through.PlaneEnd.the-variants as plane
+use Rattle.acread.proofs.through.dc_good.Statement.{statement}
+use Rattle.acread.proofs.through.dc_good.Tie as tie
+use Rattle.acread.specs.through.Through.{endSays}
+use Rattle.acread.proofs.through.Codes.{good-end, bad-end}
+use Rattle.acread.proofs.through.CodesEnd.{clean-steps}
 
 no-six-zeros-requires : tie.Need-no-six-zeros-requires
 no-six-zeros-requires c κs = search needs
@@ -44,8 +44,8 @@ returns-3 c =
     let d : t .result ≡ plane.Refused (c .before .n .given .0 .0) = cc in
     sym (bad-end (readSteps (2 * a .columns) (bitAt (a .dc .now)) (8 * a .at)) (sym (ap endSays d) ∙ t .ensures))
 
-pub plane-good-spec : {M : Type 1} → statement M
-plane-good-spec =
+pub dc-good-spec : {M : Type 1} → statement M
+dc-good-spec =
     tie.close
     (tie.spec
     no-six-zeros-requires

@@ -1,4 +1,4 @@
--- `acread::through::plane_good`: clean by the scan, or by the answer of the read-through.
+-- `acread::through::ac_good`: clean by the scan, or by the answer of the read-through.
 use mathlib.Core.Path.{_≡_, sym, ap, _∙_}
 use Prim.Native.Nat.{_*_}
 use native.Mathlib.Omega.{arith}
@@ -7,10 +7,10 @@ use Rattle.bits.specs.Bits.{bitAt}
 use Rattle.calls.specs.ReadPlane.{readBlocks}
 use Rattle.acread.specs.through.Through.{endSays}
 use Rattle.acread.specs.declared.through.PlaneEnd.the-variants as plane
-use Rattle.acread.proofs.through.Blocks.{good-end, bad-end}
 use Rattle.acread.proofs.through.Ends.{clean-blocks}
-use Rattle.acread.proofs.through.plane_good.Statement.{statement}
-use Rattle.acread.proofs.through.plane_good.Tie as tie
+use Rattle.acread.proofs.through.ac_good.Statement.{statement}
+use Rattle.acread.proofs.through.ac_good.Tie as tie
+use Rattle.acread.proofs.through.Blocks.{good-end, bad-end}
 
 no-six-zeros-requires : tie.Need-no-six-zeros-requires
 no-six-zeros-requires c κs = search needs
@@ -44,8 +44,8 @@ returns-3 c =
     let d : t .result ≡ plane.Refused (c .before .n .given .0 .0) = cc in
     sym (bad-end (readBlocks (2 * a .columns) (bitAt (a .ac .now)) (8 * a .at) 0) (sym (ap endSays d) ∙ t .ensures))
 
-pub plane-good-spec : {M : Type 1} → statement M
-plane-good-spec =
+pub ac-good-spec : {M : Type 1} → statement M
+ac-good-spec =
     tie.close
     (tie.spec
     no-six-zeros-requires
