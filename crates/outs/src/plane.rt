@@ -1,5 +1,6 @@
 // Answers of the calls on planes and slices, handed out: the number is returned, positions and lengths go into the places that
 // the caller lends for them.
+use acread::through::PlaneEnd;
 use questions::answers::CodeAnswer;
 use questions::answers::ReadAnswer;
 use questions::answers::SizeAnswer;
@@ -15,7 +16,8 @@ ghost use Rattle.questions.specs.answers.Read.{answered as readAnswered};
 
 // Of a coding call: both positions, as they were given where it is refused.
 pub fn coded_out(answer: CodeAnswer, dc_at: &mut usize, ac_at: &mut usize) -> u32
-    ensures { λ r. ⌜ ((dcs : List ℕ) (acs : List ℕ) → codedAs r (now («dc_at» .exit)) (now («ac_at» .exit)) dcs acs ≡ codedAnswered answer dcs acs) ⌝ }
+    ensures { λ r. ⌜ ((dcs : List ℕ) (acs : List ℕ)
+        → codedAs r (now («dc_at» .exit)) (now («ac_at» .exit)) dcs acs ≡ codedAnswered answer dcs acs) ⌝ }
 {
     match answer {
         CodeAnswer::Refused(number, d0, a0) => {
@@ -33,7 +35,8 @@ pub fn coded_out(answer: CodeAnswer, dc_at: &mut usize, ac_at: &mut usize) -> u3
 
 // Of a reading call.
 pub fn read_out(answer: ReadAnswer, dc_at: &mut usize, ac_at: &mut usize) -> u32
-    ensures { λ r. ⌜ ((lent : List (List ℕ)) → decodedAs r (now («dc_at» .exit)) (now («ac_at» .exit)) lent ≡ readAnswered answer lent) ⌝ }
+    ensures { λ r. ⌜ ((lent : List (List ℕ))
+        → decodedAs r (now («dc_at» .exit)) (now («ac_at» .exit)) lent ≡ readAnswered answer lent) ⌝ }
 {
     match answer {
         ReadAnswer::Refused(n, d0, a0) => {
@@ -49,26 +52,28 @@ pub fn read_out(answer: ReadAnswer, dc_at: &mut usize, ac_at: &mut usize) -> u32
     }
 }
 
-// Of a preview: the position behind the plane's DC stream; a refusal leaves the place as it was.
-pub fn preview_out(answer: preview::PlaneEnd, dc_at: &mut usize) -> u32
-    ensures { λ r. ⌜ ((upper : List ℕ) (lower : List ℕ) → previewedAs r (now («dc_at» .exit)) upper lower ≡ previewSays (now («dc_at» .entry)) answer upper lower) ⌝ }
+// Of a preview: the position after the plane's DC stream; a refusal leaves the place as it was.
+pub fn preview_out(answer: PlaneEnd, dc_at: &mut usize) -> u32
+    ensures { λ r. ⌜ ((upper : List ℕ) (lower : List ℕ)
+        → previewedAs r (now («dc_at» .exit)) upper lower ≡ previewSays (now («dc_at» .entry)) answer upper lower) ⌝ }
 {
     match answer {
-        preview::PlaneEnd::Refused(n) => n,
-        preview::PlaneEnd::At(p) => {
+        PlaneEnd::Refused(n) => n,
+        PlaneEnd::At(p) => {
             *dc_at = p;
             0
         }
     }
 }
 
-// Of a block report: the position behind the plane's AC stream; a refusal leaves the place as it was.
-pub fn report_out(answer: acread::through::PlaneEnd, ac_at: &mut usize) -> u32
-    ensures { λ r. ⌜ ((bytes : List ℕ) → reportedAs r (now («ac_at» .exit)) bytes ≡ reportSays (now («ac_at» .entry)) answer bytes) ⌝ }
+// Of a block report: the position after the plane's AC stream; a refusal leaves the place as it was.
+pub fn report_out(answer: PlaneEnd, ac_at: &mut usize) -> u32
+    ensures { λ r. ⌜ ((bytes : List ℕ)
+        → reportedAs r (now («ac_at» .exit)) bytes ≡ reportSays (now («ac_at» .entry)) answer bytes) ⌝ }
 {
     match answer {
-        acread::through::PlaneEnd::Refused(n) => n,
-        acread::through::PlaneEnd::At(q) => {
+        PlaneEnd::Refused(n) => n,
+        PlaneEnd::At(q) => {
             *ac_at = q;
             0
         }

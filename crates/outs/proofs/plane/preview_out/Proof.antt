@@ -2,8 +2,8 @@
 use borrow.Author.Needs.{needs}
 use mathlib.Core.Path.{_≡_, sym, ap}
 use Rattle.preview.specs.Answer.{previewSays}
-use Rattle.preview.specs.declared.PlaneEnd.{PlaneEnd}
-use Rattle.preview.specs.declared.PlaneEnd.the-variants as plane
+use Rattle.acread.specs.declared.through.PlaneEnd.{PlaneEnd}
+use Rattle.acread.specs.declared.through.PlaneEnd.the-variants as plane
 use Rattle.outs.proofs.plane.preview_out.Statement.{statement}
 use Rattle.outs.proofs.plane.preview_out.Tie as tie
 
