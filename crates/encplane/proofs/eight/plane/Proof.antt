@@ -10,8 +10,8 @@ use Rattle.calls.specs.Arguments.{eight, Settings, settings, Plane, plane, PerS
 use Rattle.calls.specs.Views.{settingsBy, planeBy, positionsBy}
 use Rattle.slice.specs.Plane.{blockCoefficients}
 use Rattle.bitwriter.proofs.Writer.{wrote-length}
-use Rattle.planes.proofs.Laws.{corner-fits, part-is, part-long}
-use Rattle.encplane.proofs.Laws.{block-8}
+use Rattle.planes.proofs.Laws.{corner-fits, part-is}
+use Rattle.encplane.proofs.Laws.{block-8, part-room}
 use Rattle.encplane.proofs.Loops.{Coding, From, begun, room, coded, next-row, last-room, done}
 use Rattle.encplane.proofs.eight.plane.Statement.{statement}
 use Rattle.encplane.proofs.eight.plane.Tie as tie
@@ -91,7 +91,7 @@ fdct-quant-zig8-requires c κs =
     let k = c .before .before in
     let b = k .before .before .before .before .before in
     let s = start b in
-    (rw (part-is (s .args .rows .now) (k .corner .result)) (part-long (s .args .rows .now) (k .corner .result) (s .args .h .stride) (inside k)), (b .before .before .level8 .ensures .1, record { preset = s .args .s .preset; preset-lt = omega (arith, s .pre .settings .preset-le); numbers = b .before .encode-numbers .ensures }))
+    (part-room (s .args .rows .now) (k .corner .result) (s .args .h .stride) (inside k), (b .before .before .level8 .ensures .1, record { preset = s .args .s .preset; preset-lt = omega (arith, s .pre .settings .preset-le); numbers = b .before .encode-numbers .ensures }))
 
 -- the block's coefficients
 coefficients : (c : tie.After-fdct-quant-zig8 Inv-loop2 μ-loop2 Inv-loop μ-loop) →

@@ -10,8 +10,8 @@ use Rattle.calls.specs.Arguments.{ten, Settings, settings, Plane, plane, PerStr
 use Rattle.calls.specs.Views.{settingsBy, planeBy, positionsBy}
 use Rattle.slice.specs.Plane.{blockCoefficients}
 use Rattle.bitwriter.proofs.Writer.{wrote-length}
-use Rattle.planes.proofs.Laws.{corner-fits, part-is, part-long}
-use Rattle.encplane.proofs.Laws.{block-16}
+use Rattle.planes.proofs.Laws.{corner-fits, part-is}
+use Rattle.encplane.proofs.Laws.{block-16, part-room}
 use Rattle.encplane.proofs.Loops.{Coding, From, begun, room, coded, next-row, last-room, done}
 use Rattle.encplane.proofs.ten.plane.Statement.{statement}
 use Rattle.encplane.proofs.ten.plane.Tie as tie
@@ -94,7 +94,7 @@ fdct-quant-zig16-requires c κs =
     let k = c .before .before in
     let b = k .before .before .before .before .before in
     let s = start b in
-    (rw (part-is (s .args .rows .now) (k .corner .result)) (part-long (s .args .rows .now) (k .corner .result) (s .args .h .stride) (inside k)), (b .before .before .level10 .ensures .1, record { preset = s .args .s .preset; preset-lt = omega (arith, s .pre .settings .preset-le); numbers = b .before .encode-numbers .ensures }))
+    (part-room (s .args .rows .now) (k .corner .result) (s .args .h .stride) (inside k), (b .before .before .level10 .ensures .1, record { preset = s .args .s .preset; preset-lt = omega (arith, s .pre .settings .preset-le); numbers = b .before .encode-numbers .ensures }))
 
 -- the block's coefficients
 coefficients : (c : tie.After-fdct-quant-zig16 Inv-loop2 μ-loop2 Inv-loop μ-loop) →
