@@ -44,7 +44,7 @@ returns-2 c =
     let p = c .before .before .before .before in
     let e = p .before .before .before in
     let s = start (e .before) in
-    slice-is (call s) (b-of s) (at-of s) (asked (e .before)) (none e) (p .slice .ensures)
+    slice-is (call s) (b-of s) (at-of s) {b' = buffers (p .slice .last .1 .1 .1 .1 .1 .1 .0) (p .slice .last .1 .1 .1 .1 .1 .1 .1 .0)} (asked (e .before)) (none e) (p .slice .ensures)
 
 -- the call changed no buffer's length
 dcs-kept : tie.Need-same-length
