@@ -1,4 +1,4 @@
--- What follows for a plane's streams if its blocks are quantised: they fit the lengths of the size call.
+-- Quantised blocks, and what follows for a plane's streams: they fit the lengths of the size call.
 use mathlib.Core.Path.{_≡_, refl, sym, ap, ap₂, _∙_}
 use mathlib.Core.List.{List, [], _∷_, _++_, map}
 use Prim.Native.Nat.{ℕ, zero, suc, _+_, _*_, _^_, _-_, _/_, _≤_, _<_, suc-le-suc}
@@ -6,6 +6,7 @@ use native.Mathlib.Omega.{arith}
 use lib.IntN.{ℤ, pos, negsuc, natAbs}
 use lib.Signed.{mag}
 use lib.ListN.{length, getD}
+use Rattle.ask.specs.Limits.{shiftMax, dcBlockBytes, acBlockBytes}
 use Rattle.calls.specs.Grid.{blocksOf}
 use Rattle.calls.specs.Streams.{dcOf, dcStream, acStream}
 use Rattle.calls.specs.Questions.{lengthsAtMost}
@@ -22,6 +23,10 @@ pub record Quantised (b : List ℤ) : Type 0 where
 abbrev pub AllQuantised : List (List ℤ) → Type 0
 AllQuantised [] = Unit {0}
 AllQuantised (b ∷ bs) = Quantised b × AllQuantised bs
+
+pub all-append : (xs ys : List (List ℤ)) → AllQuantised xs → AllQuantised ys → AllQuantised (xs ++ ys)
+all-append [] ys a b = b
+all-append (x ∷ xs) ys a b = (a .0, all-append xs ys (a .1) b)
 
 fit-of : (b : List ℤ) → AtMost 2048 b → Fit16 b
 fit-of [] h = tt
@@ -58,9 +63,17 @@ ac-small : (bs : List (List ℤ)) → AllQuantised bs → AcSmall bs
 ac-small [] h = tt
 ac-small (b ∷ bs) h = one-small b bs (h .0) (ac-small bs (h .1))
 
-module _ (bs : List (List ℤ)) (stride : ℕ) (count : length bs ≡ blocksOf stride) (q : AllQuantised bs) where
-  pub dc-fits : (shift : ℕ) → shift ≤ 15 → length (dcStream shift bs) ≤ lengthsAtMost stride .dc
-  dc-fits shift h = rw (← count) (dc-length shift bs h (dcs-at-most bs q))
+-- "a length that each stream is at most: 4 bytes a block for DC, 197 for AC"
+module _ (bs : List (List ℤ)) (q : AllQuantised bs) where
+  pub dc-le : (shift : ℕ) → shift ≤ shiftMax → length (dcStream shift bs) ≤ dcBlockBytes * length bs
+  dc-le shift h = dc-length shift bs h (dcs-at-most bs q)
 
-  pub ac-fits : length (acStream bs) ≤ lengthsAtMost stride .ac
-  ac-fits = rw (← count) (ac-length bs (ac-small bs q))
+  pub ac-le : length (acStream bs) ≤ acBlockBytes * length bs
+  ac-le = ac-length bs (ac-small bs q)
+
+  module _ (stride : ℕ) (count : length bs ≡ blocksOf stride) where
+    pub dc-fits : (shift : ℕ) → shift ≤ shiftMax → length (dcStream shift bs) ≤ lengthsAtMost stride .dc
+    dc-fits shift h = rw (← count) (dc-le shift h)
+
+    pub ac-fits : length (acStream bs) ≤ lengthsAtMost stride .ac
+    ac-fits = rw (← count) ac-le

@@ -9,14 +9,13 @@ use lib.IntN.{ℤ, pos}
 use lib.ListN.{length, length-append}
 use Rattle.scalar.specs.Tab.{tab, tabFrom}
 use Rattle.scalar.proofs.Fill.{length-tab}
-use Rattle.calls.specs.Arguments.{Depth, Settings, Plane, settings, plane}
-use Rattle.calls.specs.Streams.{dcStream, acStream}
+use Rattle.calls.specs.Arguments.{Settings, Plane, PerStream, Buffers, buffers}
+use Rattle.calls.specs.Legal.{LegalSettings}
 use Rattle.calls.specs.Grid.{columnsOf, blocksOf}
 use Rattle.slice.specs.Plane.{blockCoefficients, coefficientsAt, coefficients}
 use Rattle.calls.proofs.Fits.{Quantised}
-use Rattle.slice.proofs.Law.{quantised}
+use Rattle.slice.proofs.Law.{quantised, count-is}
 use Rattle.entropy.specs.declared.plane.PlaneState.{PlaneState}
-use Rattle.entropy.specs.declared.plane.Ends.{Ends}
 use Rattle.entropy.specs.plane.Coded.{startOf, PlaneCoded, BlockRoom, EndRoom, Ended}
 use Rattle.entropy.proofs.plane.Blocks.{coded-start}
 use Rattle.entropy.proofs.plane.Rooms.{Begun, block-room, begun-next, end-room}
@@ -58,68 +57,67 @@ up-length f n zero i h l = omega (arith, length-tab i (f 0))
 up-length f n (suc zero) i h l = omega (arith, length-append (tab n (f 0)) (tab i (f 1)), length-tab n (f 0), length-tab i (f 1))
 up-length f n (suc (suc j)) i h l = absurd (omega arith)
 
-module _ (depth : Depth) (preset shift : ℕ) (p : Plane) where
+module _ (σ : Settings) (p : Plane) where
   abbrev pub block : ℕ → ℕ → List ℤ
-  block j k = blockCoefficients depth preset p j k
+  block j k = blockCoefficients (σ .depth) (σ .preset) p j k
 
-  -- j block rows and i blocks are coded, of a plane that began at d and a
-  abbrev pub Coding : List ℕ → List ℕ → ℕ → ℕ → ℕ → ℕ → PlaneState → List ℕ → List ℕ → Type 0
-  Coding dcs acs d a j i s dc1 ac1 = Begun shift dcs acs d a (blocksOf (p .stride)) (upTo block (columnsOf (p .stride)) j i) s dc1 ac1
+  -- these blocks are coded, of a plane that began at these positions
+  abbrev With : Buffers → PerStream → List (List ℤ) → PlaneState → List ℕ → List ℕ → Type 0
+  With b at bs s dc1 ac1 = Begun (σ .shift) (b .dcBytes) (b .acBytes) at (blocksOf (p .stride)) bs s dc1 ac1
 
-  -- the inner loop, from the state s0 and the buffers dc0 and ac0 on, wherever the plane began
-  abbrev pub Row : ℕ → ℕ → ℕ → PlaneState → List ℕ → List ℕ → ℕ → PlaneState → List ℕ → List ℕ → Type 0
-  Row d a j s0 dc0 ac0 i s dc1 ac1 = (dcs acs : List ℕ) → Coding dcs acs d a j 0 s0 dc0 ac0 → Coding dcs acs d a j i s dc1 ac1
+  -- j block rows and i blocks
+  abbrev pub Coding : Buffers → PerStream → ℕ → ℕ → PlaneState → List ℕ → List ℕ → Type 0
+  Coding b at j i s dc1 ac1 = With b at (upTo block (columnsOf (p .stride)) j i) s dc1 ac1
 
-  pub begun : (l : List ℕ) {dcs acs : List ℕ} {d a : ℕ} → PlaneOk preset shift (p .stride) l dcs d acs a → Coding dcs acs d a 0 0 (startOf d a) dcs acs
+  -- from the state s0 and the buffers dc0 and ac0 on, after j0 block rows, wherever the plane began
+  abbrev pub From : ℕ → PlaneState → List ℕ → List ℕ → ℕ → ℕ → PlaneState → List ℕ → List ℕ → Type 0
+  From j0 s0 dc0 ac0 j i s dc1 ac1 = (b : Buffers) (at : PerStream) → Coding b at j0 0 s0 dc0 ac0 → Coding b at j i s dc1 ac1
+
+  none-yet : {b : Buffers} {at : PerStream} → PlaneOk σ p b at → Coding b at 0 0 (startOf at) (b .dcBytes) (b .acBytes)
   unfolding tabFrom
-  begun l {dcs} {acs} {d} {a} o = record {
-    coded = coded-start shift dcs acs d a (omega (arith, o .dc-room)) (omega (arith, o .ac-room));
+  none-yet {b} {at} o = record {
+    coded = coded-start (σ .shift) (b .dcBytes) (b .acBytes) at (omega (arith, o .dc-room)) (omega (arith, o .ac-room));
     quantised = tt;
-    shift-le = o .shift-le;
+    shift-le = o .settings .shift-le;
     dc-room = o .dc-room;
     ac-room = o .ac-room;
-    few = omega (arith, o .stride-le);
+    few = omega (arith, o .plane .stride-le);
   }
 
-  -- one block
-  pub room : (j i : ℕ) {dcs acs : List ℕ} {d a : ℕ} {s : PlaneState} {dc1 ac1 : List ℕ} (z : List ℤ) → preset ≤ 24 → j < 2 → i < columnsOf (p .stride) → z ≡ block j i
-      → Coding dcs acs d a j i s dc1 ac1 → BlockRoom shift s dc1 ac1 z
-  room j i z h hj hi e b =
-      block-room b z (subst Quantised (sym e) (quantised depth preset p j i h)) (up-length block (columnsOf (p .stride)) j i hj hi)
+  pub begun : {b : Buffers} {at : PerStream} {s : PlaneState} → s ≡ startOf at → PlaneOk σ p b at → Coding b at 0 0 s (b .dcBytes) (b .acBytes)
+  begun {b} {at} e o = subst (λ (x : PlaneState). Coding b at 0 0 x (b .dcBytes) (b .acBytes)) (sym e) (none-yet o)
 
-  pub coded : (j i : ℕ) {dcs acs : List ℕ} {d a : ℕ} {s : PlaneState} {dc1 ac1 : List ℕ} (z : List ℤ) {r : PlaneState} {dc2 ac2 : List ℕ} → preset ≤ 24 → z ≡ block j i
-      → PlaneCoded shift s dc1 ac1 (z ∷ []) r dc2 ac2 → Coding dcs acs d a j i s dc1 ac1 → Coding dcs acs d a j (i + 1) r dc2 ac2
-  coded j i {dcs} {acs} {d} {a} z {r} {dc2} {ac2} h e c b =
-      subst (λ (l : List (List ℤ)). Begun shift dcs acs d a (blocksOf (p .stride)) l r dc2 ac2)
-      (ap (λ (x : List ℤ). upTo block (columnsOf (p .stride)) j i ++ (x ∷ [])) e ∙ up-next block (columnsOf (p .stride)) j i)
-      (begun-next b z (subst Quantised (sym e) (quantised depth preset p j i h)) c)
+  -- one block
+  pub room : (j i : ℕ) {b : Buffers} {at : PerStream} {s : PlaneState} {dc1 ac1 : List ℕ} (z : List ℤ) → LegalSettings σ → j < 2 → i < columnsOf (p .stride) → z ≡ block j i
+      → Coding b at j i s dc1 ac1 → BlockRoom (σ .shift) s dc1 ac1 z
+  room j i z h hj hi e x =
+      block-room x z (subst Quantised (sym e) (quantised (σ .depth) (σ .preset) p j i (h .preset-le))) (up-length block (columnsOf (p .stride)) j i hj hi)
+
+  pub coded : (j i : ℕ) {b : Buffers} {at : PerStream} {s : PlaneState} {dc1 ac1 : List ℕ} (z : List ℤ) {r : PlaneState} {dc2 ac2 : List ℕ} → LegalSettings σ → z ≡ block j i
+      → PlaneCoded (σ .shift) s dc1 ac1 (z ∷ []) r dc2 ac2 → Coding b at j i s dc1 ac1 → Coding b at j (i + 1) r dc2 ac2
+  coded j i {b} {at} z {r} {dc2} {ac2} h e c x =
+      subst (λ (l : List (List ℤ)). With b at l r dc2 ac2)
+      (ap (λ (y : List ℤ). upTo block (columnsOf (p .stride)) j i ++ (y ∷ [])) e ∙ up-next block (columnsOf (p .stride)) j i)
+      (begun-next x z (subst Quantised (sym e) (quantised (σ .depth) (σ .preset) p j i (h .preset-le))) c)
 
   -- a block row
-  pub next-row : (j i : ℕ) {dcs acs : List ℕ} {d a : ℕ} {s : PlaneState} {dc1 ac1 : List ℕ} → i ≡ columnsOf (p .stride) → Coding dcs acs d a j i s dc1 ac1 → Coding dcs acs d a (j + 1) 0 s dc1 ac1
-  next-row j i {dcs} {acs} {d} {a} {s} {dc1} {ac1} e b =
-      subst (λ (l : List (List ℤ)). Begun shift dcs acs d a (blocksOf (p .stride)) l s dc1 ac1)
+  pub next-row : (j i : ℕ) {b : Buffers} {at : PerStream} {s : PlaneState} {dc1 ac1 : List ℕ} → i ≡ columnsOf (p .stride) → Coding b at j i s dc1 ac1 → Coding b at (j + 1) 0 s dc1 ac1
+  next-row j i {b} {at} {s} {dc1} {ac1} e x =
+      subst (λ (l : List (List ℤ)). With b at l s dc1 ac1)
       (ap (upTo block (columnsOf (p .stride)) j) e ∙ up-row block (columnsOf (p .stride)) j ∙ up-first block (columnsOf (p .stride)) (j + 1))
-      b
+      x
 
   -- all of them
-  all : (j : ℕ) {dcs acs : List ℕ} {d a : ℕ} {s : PlaneState} {dc1 ac1 : List ℕ} → j ≡ 2 → Coding dcs acs d a j 0 s dc1 ac1 → Begun shift dcs acs d a (blocksOf (p .stride)) (coefficientsAt depth preset p) s dc1 ac1
+  all : (j : ℕ) {b : Buffers} {at : PerStream} {s : PlaneState} {dc1 ac1 : List ℕ} → j ≡ 2 → Coding b at j 0 s dc1 ac1 → With b at (coefficients σ p) s dc1 ac1
   unfolding coefficientsAt
-  all j {dcs} {acs} {d} {a} {s} {dc1} {ac1} e b =
-      subst (λ (l : List (List ℤ)). Begun shift dcs acs d a (blocksOf (p .stride)) l s dc1 ac1)
-      (sym (up-first block (columnsOf (p .stride)) j) ∙ ap (rowsTo block (columnsOf (p .stride))) e)
-      b
+  all j {b} {at} {s} {dc1} {ac1} e x =
+      subst (λ (l : List (List ℤ)). With b at l s dc1 ac1) (sym (up-first block (columnsOf (p .stride)) j) ∙ ap (rowsTo block (columnsOf (p .stride))) e) x
 
-  count : length (coefficientsAt depth preset p) ≡ blocksOf (p .stride)
-  unfolding coefficientsAt
-  count =
-      length-append (tab (columnsOf (p .stride)) (block 0)) (tab (columnsOf (p .stride)) (block 1))
-      ∙ omega (arith, length-tab (columnsOf (p .stride)) (block 0), length-tab (columnsOf (p .stride)) (block 1))
+  pub last-room : (j : ℕ) {b : Buffers} {at : PerStream} {s : PlaneState} {dc1 ac1 : List ℕ} → LegalSettings σ → j ≡ 2 → Coding b at j 0 s dc1 ac1 → EndRoom s dc1 ac1
+  last-room j h e x = end-room (all j e x) (omega (arith, count-is σ p (h .preset-le)))
 
-  pub last-room : (j : ℕ) {dcs acs : List ℕ} {d a : ℕ} {s : PlaneState} {dc1 ac1 : List ℕ} → j ≡ 2 → Coding dcs acs d a j 0 s dc1 ac1 → EndRoom s dc1 ac1
-  last-room j e b = end-room (all j e b) (omega (arith, count))
-
-  pub done : (j : ℕ) {dcs acs : List ℕ} {d a : ℕ} {s : PlaneState} {dc1 ac1 : List ℕ} {r : Ends} {dc2 ac2 : List ℕ} → j ≡ 2 → Coding dcs acs d a j 0 s dc1 ac1 → Ended s dc1 ac1 r dc2 ac2
-      → PlaneDone (settings depth preset shift) p dcs d acs a r dc2 ac2
-  done j e b x =
-      let c = all j e b .coded in
-      record { dc-bytes = dc-whole c x; dc-end = dc-ends c x; ac-bytes = ac-whole c x; ac-end = ac-ends c x }
+  pub done : (j : ℕ) {b : Buffers} {at : PerStream} {s : PlaneState} {dc1 ac1 : List ℕ} {r : PerStream} {dc2 ac2 : List ℕ} → j ≡ 2 → Coding b at j 0 s dc1 ac1 → Ended s dc1 ac1 r dc2 ac2
+      → PlaneDone σ p b at r (buffers dc2 ac2)
+  done j e x y =
+      let c = all j e x .coded in
+      record { dc-bytes = dc-whole c y; dc-end = dc-ends c y; ac-bytes = ac-whole c y; ac-end = ac-ends c y }

@@ -4,6 +4,7 @@ ghost use mathlib.Core.List.{_++_};
 ghost use Prim.Native.Nat.{_+_, _^_, _≤_, _<_};
 ghost use lib.IntN.{pos, natAbs};
 ghost use lib.ListN.{length};
+ghost use Rattle.ask.specs.Limits.{shiftMax};
 ghost use Rattle.bits.specs.Signed.{codeOf};
 ghost use Rattle.shuffles.specs.Shuffles.{nonzeroMask};
 ghost use Rattle.calls.specs.Streams.{halfStep, codedDc, stepCode, withDc};
@@ -19,7 +20,7 @@ pub struct AcState {
 
 // Half a step of 2 to the power of the shift, none at shift 0.
 fn half_step(shift: u32) -> i16
-    requires { ⌜ shift ≤ 15 ⌝ }
+    requires { ⌜ shift ≤ shiftMax ⌝ }
     ensures { λ r. ⌜ r ≡ pos (halfStep shift) ⌝ }
 {
     if shift == 0 {
@@ -31,7 +32,7 @@ fn half_step(shift: u32) -> i16
 
 // The DC as it is coded: rounded and shifted right.
 pub fn coded_dc(d: i16, shift: u32) -> i16
-    requires { ⌜ shift ≤ 15 ⌝ }
+    requires { ⌜ shift ≤ shiftMax ⌝ }
     ensures { λ r. ⌜ r ≡ codedDc shift d ⌝ }
 {
     scalar::sra16(scalar::add1(d, half_step(shift)), shift)

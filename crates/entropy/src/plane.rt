@@ -3,9 +3,11 @@ ghost use mathlib.Core.Path.{_≡_};
 ghost use mathlib.Core.List.{[], _∷_};
 ghost use Prim.Native.Nat.{_+_, _≤_, _<_};
 ghost use lib.ListN.{length};
+ghost use Rattle.calls.specs.Views.{positionsBy};
 ghost use Rattle.entropy.specs.plane.Coded.{startOf, BlockRoom, PlaneCoded, EndRoom, Ended};
 use crate::block::AcState;
 use bitwriter::BitAcc;
+use calls::Positions;
 
 // Both writers, the zeros that wait to be coded as a run, and the coded DC of the block before.
 pub struct PlaneState {
@@ -15,26 +17,20 @@ pub struct PlaneState {
     pub pred: i16,
 }
 
-// Where the two streams of a plane end.
-pub struct Ends {
-    pub dc: usize,
-    pub ac: usize,
-}
-
 // A plane's start: nothing waits, and the prediction is 0.
-pub fn begin(d: usize, a: usize) -> PlaneState
-    ensures { λ r. ⌜ r ≡ startOf d a ⌝ }
+pub fn begin(at: Positions) -> PlaneState
+    ensures { λ r. ⌜ r ≡ startOf (positionsBy at) ⌝ }
 {
     PlaneState {
         dc: BitAcc {
             acc: 0,
             nbits: 0,
-            pos: d,
+            pos: at.dc,
         },
         ac: BitAcc {
             acc: 0,
             nbits: 0,
-            pos: a,
+            pos: at.ac,
         },
         run: 0,
         pred: 0,
@@ -68,15 +64,15 @@ pub fn code_block(
 }
 
 // Ends both streams: the zeros that wait become a run, and zero bits fill the last bytes.
-pub fn end(s: PlaneState, dcs: &mut [u8], acs: &mut [u8]) -> Ends
+pub fn end(s: PlaneState, dcs: &mut [u8], acs: &mut [u8]) -> Positions
     requires { ⌜ EndRoom s (now dcs) (now acs) ⌝ }
-    ensures { λ r. ⌜ Ended s (now (dcs .entry)) (now (acs .entry)) r (now (dcs .exit)) (now (acs .exit)) ⌝ }
+    ensures { λ r. ⌜ Ended s (now (dcs .entry)) (now (acs .entry)) (positionsBy r) (now (dcs .exit)) (now (acs .exit)) ⌝ }
 {
     let dc = s.dc;
     let ac = s.ac;
     let a = bitwriter::align(bitwriter::put_run(ac, s.run, acs), acs);
     let d = bitwriter::align(dc, dcs);
-    Ends {
+    Positions {
         dc: d.pos,
         ac: a.pos,
     }

@@ -7,6 +7,7 @@ use lib.IntN.{pos}
 use lib.ListN.{length, take, drop, length-drop}
 use lib.Seq.{take-all}
 use borrow.Author.Tests.{ne-eqb}
+use Rattle.ask.specs.Limits.{strideMax}
 use Rattle.calls.specs.Arguments.{Depth}
 use Rattle.calls.specs.Grid.{level, middleOf}
 
@@ -21,7 +22,7 @@ pub level-else : (depth : Depth) (place : ℕ) → (place ≡ 0 → ⊥) → (pl
 level-else depth place n m = rw (ne-eqb place 0 n, ne-eqb place 3 m) refl
 
 -- ---- corners
-pub top-small : (j stride : ℕ) → j < 2 → stride ≤ 7680 → 8 * j * stride ≤ 61440
+pub top-small : (j stride : ℕ) → j < 2 → stride ≤ strideMax → 8 * j * stride ≤ 8 * strideMax
 top-small zero stride h l = omega arith
 top-small (suc zero) stride h l = omega arith
 top-small (suc (suc j)) stride h l = absurd (omega arith)

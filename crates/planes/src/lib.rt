@@ -2,8 +2,9 @@
 ghost use mathlib.Core.Path.{_≡_};
 ghost use Prim.Native.Nat.{_+_, _*_, _<_, _≤_};
 ghost use lib.IntN.{pos};
+ghost use Rattle.ask.specs.Limits.{strideMax};
 ghost use Rattle.calls.specs.Arguments.{eight, ten};
-ghost use Rattle.calls.specs.Grid.{level};
+ghost use Rattle.calls.specs.Grid.{columnsOf, level};
 
 // The level of an 8-bit plane.
 pub fn level8(place: usize) -> u16
@@ -47,7 +48,7 @@ pub fn lane10(place: usize) -> i16
 
 // Where the block in block row j and block column i has its corner.
 pub fn corner(stride: usize, j: usize, i: usize) -> usize
-    requires { ⌜ (j < 2) × (stride ≤ 7680) × (i < 960) ⌝ }
+    requires { ⌜ (j < 2) × (stride ≤ strideMax) × (i < columnsOf strideMax) ⌝ }
     ensures { λ r. ⌜ r ≡ 8 * j * stride + 8 * i ⌝ }
 {
     8 * j * stride + 8 * i

@@ -1,11 +1,12 @@
 // What the calls on planes and slices answer: the number of the first "no", or where the streams end.
+use calls::Positions;
 
 // Of a coding call.
 pub enum CodeAnswer {
     // The number of the first "no", and the positions of both streams as they were given.
-    Refused(u32, usize, usize),
+    Refused(u32, Positions),
     // Where the two streams end.
-    Accepted(usize, usize),
+    Accepted(Positions),
 }
 
 // Of a reading call.

@@ -19,7 +19,7 @@ use Rattle.calls.specs.Grid.{columnsOf, blocksOf, level}
 use Rattle.slice.specs.Plane.{lanesAt, blockCoefficients, coefficientsAt, coefficients}
 use Rattle.calls.proofs.PlaneBack.{Blocks64}
 use Rattle.calls.proofs.Size.{AtMost}
-use Rattle.calls.proofs.Fits.{Quantised, AllQuantised, blocks-64, dcs-at-most}
+use Rattle.calls.proofs.Fits.{Quantised, AllQuantised, all-append, blocks-64, dcs-at-most}
 use Rattle.calls.proofs.Fits as fits
 
 at-most-list : (b : ℕ) (l : List ℤ) → ((i : ℕ) → i < length l → natAbs (getD l i (pos 0)) ≤ b) → AtMost b l
@@ -48,14 +48,10 @@ module _ (σ : Settings) (p : Plane) (preset-le : σ .preset ≤ 24) where
   row-quantised j k zero = tt
   row-quantised j k (suc n) = (quantised (σ .depth) (σ .preset) p j k preset-le, row-quantised j (suc k) n)
 
-  both : (xs ys : List (List ℤ)) → AllQuantised xs → AllQuantised ys → AllQuantised (xs ++ ys)
-  both [] ys a b = b
-  both (x ∷ xs) ys a b = (a .0, both xs ys (a .1) b)
-
   pub plane-quantised : AllQuantised (coefficients σ p)
   unfolding coefficientsAt
   plane-quantised =
-      both (tab (columnsOf (p .stride)) (blockCoefficients (σ .depth) (σ .preset) p 0)) (tab (columnsOf (p .stride)) (blockCoefficients (σ .depth) (σ .preset) p 1)) (row-quantised 0 0 (columnsOf (p .stride))) (row-quantised 1 0 (columnsOf (p .stride)))
+      all-append (tab (columnsOf (p .stride)) (blockCoefficients (σ .depth) (σ .preset) p 0)) (tab (columnsOf (p .stride)) (blockCoefficients (σ .depth) (σ .preset) p 1)) (row-quantised 0 0 (columnsOf (p .stride))) (row-quantised 1 0 (columnsOf (p .stride)))
 
   pub blocks-fit : Blocks64 (coefficients σ p)
   blocks-fit = blocks-64 (coefficients σ p) plane-quantised
@@ -70,7 +66,7 @@ module _ (σ : Settings) (p : Plane) (preset-le : σ .preset ≤ 24) where
       ∙ (omega (arith, length-tab (columnsOf (p .stride)) (blockCoefficients (σ .depth) (σ .preset) p 0), length-tab (columnsOf (p .stride)) (blockCoefficients (σ .depth) (σ .preset) p 1)))
 
   pub dc-fits : σ .shift ≤ 15 → length (dcStream (σ .shift) (coefficients σ p)) ≤ 4 * blocksOf (p .stride)
-  dc-fits h = fits.dc-fits (coefficients σ p) (p .stride) count-is plane-quantised (σ .shift) h
+  dc-fits h = fits.dc-fits (coefficients σ p) plane-quantised (p .stride) count-is (σ .shift) h
 
   pub ac-fits : length (acStream (coefficients σ p)) ≤ 197 * blocksOf (p .stride)
-  ac-fits = fits.ac-fits (coefficients σ p) (p .stride) count-is plane-quantised
+  ac-fits = fits.ac-fits (coefficients σ p) plane-quantised (p .stride) count-is

@@ -1,4 +1,4 @@
--- Blocks coded one behind the other.
+-- Blocks coded one after the other.
 use mathlib.Core.Path.{_≡_, refl, sym, ap, ap₂, _∙_, subst}
 use mathlib.Core.Bool.{Bool}
 use mathlib.Core.List.{List, [], _∷_, _++_, map}
@@ -8,6 +8,7 @@ use lib.IntN.{ℤ, pos, natAbs, _-ℤ_}
 use lib.ListN.{length}
 use Rattle.scalar.specs.Tab.{lane}
 use Rattle.bits.specs.Bits.{bitsOf}
+use Rattle.calls.specs.Arguments.{PerStream}
 use Rattle.calls.specs.Streams.{codedDc, stepsFrom, stepCode, stepCodes, withDc}
 use Rattle.bitwriter.specs.declared.BitAcc.{BitAcc}
 use Rattle.bitwriter.specs.Put.{start, Wrote, Put, Room}
@@ -23,9 +24,9 @@ put-as : (a : BitAcc) {o : List ℕ} {x y : List Bool} {b : BitAcc} {p : List �
 put-as a {o} {x} {y} {b} {p} e v = subst (λ (l : List Bool). Put a o l b p) e v
 
 -- no block yet
-pub coded-start : (shift : ℕ) (dc ac : List ℕ) (d a : ℕ) → d ≤ length dc → a ≤ length ac → PlaneCoded shift (startOf d a) dc ac [] (startOf d a) dc ac
+pub coded-start : (shift : ℕ) (dc ac : List ℕ) (at : PerStream) → at .dc ≤ length dc → at .ac ≤ length ac → PlaneCoded shift (startOf at) dc ac [] (startOf at) dc ac
 unfolding bitsOf stepCodes stepsFrom placesCodes waitingAfter
-coded-start shift dc ac d a hd ha = record { dc-put = wrote-start dc d hd; ac-put = wrote-start ac a ha; pred-is = refl; run-is = refl }
+coded-start shift dc ac at hd ha = record { dc-put = wrote-start dc (at .dc) hd; ac-put = wrote-start ac (at .ac) ha; pred-is = refl; run-is = refl }
 
 -- blocks after blocks
 pub coded-more : {shift : ℕ} {s : PlaneState} {dc ac : List ℕ} {xs ys : List (List ℤ)} {r : PlaneState} {dc1 ac1 : List ℕ} {q : PlaneState} {dc2 ac2 : List ℕ}

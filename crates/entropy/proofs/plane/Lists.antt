@@ -1,4 +1,4 @@
--- Laws of lists of blocks, one behind the other: their steps, their places.
+-- Laws of lists of blocks, one after the other: their steps, their places.
 use mathlib.Core.Path.{_≡_, refl, sym, ap, ap₂, _∙_}
 use mathlib.Core.Bool.{Bool}
 use mathlib.Core.List.{List, [], _∷_, _++_, map, append-assoc, append-nil, map-append}

@@ -1,4 +1,4 @@
--- Quantised blocks, and room for 4 and 197 bytes a block: every put fits.
+-- Room for 4 and 197 bytes a block: every put of quantised blocks fits.
 use mathlib.Core.Path.{_≡_, refl, sym, ap, ap₂, _∙_, subst}
 use mathlib.Core.Bool.{Bool}
 use mathlib.Core.List.{List, [], _∷_, _++_, map}
@@ -10,9 +10,11 @@ use Rattle.scalar.specs.Tab.{lane}
 use Rattle.bits.specs.Bits.{bitsOf, runCode, bytesFor, padToByte}
 use Rattle.bits.proofs.PackBack.{length-padToByte}
 use Rattle.bits.proofs.Codes.{length-bitsOf}
+use Rattle.ask.specs.Limits.{shiftMax, dcBlockBytes, acBlockBytes}
+use Rattle.calls.specs.Arguments.{PerStream}
 use Rattle.calls.specs.Streams.{codedDc, stepsFrom, stepCode, stepCodes, dcOf, withDc, joined, symbolCodes, dcStream, acStream}
-use Rattle.calls.proofs.Size.{AtMost, Small as AcSmallRow, AcSmall, dc-length, ac-length}
-use Rattle.calls.proofs.Fits.{Quantised, AllQuantised}
+use Rattle.calls.proofs.Size.{AtMost}
+use Rattle.calls.proofs.Fits.{Quantised, AllQuantised, all-append, dcs-at-most, dc-le, ac-le}
 use Rattle.calls.proofs.DcNear.{dc-near}
 use Rattle.bitwriter.specs.declared.BitAcc.{BitAcc}
 use Rattle.bitwriter.specs.Put.{start, Wrote, Put, Room, LastRoom}
@@ -25,48 +27,20 @@ use Rattle.entropy.proofs.plane.Lists.{steps-append, dcs-append, places
 use Rattle.entropy.proofs.block.Places.{places-split}
 use Rattle.entropy.proofs.plane.Blocks.{coded-more}
 
--- ---- quantised blocks
-dcs-at-most : (bs : List (List ℤ)) → AllQuantised bs → AtMost 2048 (map dcOf bs)
-dcs-at-most [] h = tt
-dcs-at-most (b ∷ bs) h = (one b (h .0 .at-most), dcs-at-most bs (h .1))
-  where
-    one : (l : List ℤ) → AtMost 2048 l → natAbs (dcOf l) ≤ 2048
-    one [] a = omega arith
-    one (c ∷ l) a = a .0
-
-row-small : (c : ℤ) (b : List ℤ) → AtMost 2048 (c ∷ b) → natAbs (getD (c ∷ b) (length b) (pos 0)) ≤ 395 → AcSmallRow (c ∷ b)
-row-small c [] h l = l
-row-small c (d ∷ b) h l = (h .0, row-small d b (h .1) l)
-
-one-small : (b : List ℤ) (bs : List (List ℤ)) → Quantised b → AcSmall bs → AcSmall (b ∷ bs)
-one-small [] bs q r = absurd (omega (arith, q .sixty-four))
-one-small (c ∷ []) bs q r = absurd (omega (arith, q .sixty-four))
-one-small (c ∷ d ∷ l) bs q r =
-    let n : length l ≡ 62 = omega (arith, q .sixty-four) in
-    (omega arith, row-small d l (q .at-most .1) (rw n (q .last)), r)
-
-ac-small : (bs : List (List ℤ)) → AllQuantised bs → AcSmall bs
-ac-small [] h = tt
-ac-small (b ∷ bs) h = one-small b bs (h .0) (ac-small bs (h .1))
-
 pub at-most-at : (l : List ℤ) → AtMost 2048 l → Small l
 at-most-at [] h i = omega arith
 at-most-at (c ∷ l) h zero = h .0
 at-most-at (c ∷ l) h (suc i) = at-most-at l (h .1) i
 
-pub all-append : (xs ys : List (List ℤ)) → AllQuantised xs → AllQuantised ys → AllQuantised (xs ++ ys)
-all-append [] ys a b = b
-all-append (x ∷ xs) ys a b = (a .0, all-append xs ys (a .1) b)
-
 -- ---- how many bits, at most
-dc-bits : (s : ℕ) (bs : List (List ℤ)) → s ≤ 15 → AllQuantised bs → bytesFor (length (stepCodes (stepsFrom (pos 0) (codedDcs s bs)))) ≤ 4 * length bs
+dc-bits : (s : ℕ) (bs : List (List ℤ)) → s ≤ shiftMax → AllQuantised bs → bytesFor (length (stepCodes (stepsFrom (pos 0) (codedDcs s bs)))) ≤ dcBlockBytes * length bs
 unfolding dcStream
-dc-bits s bs h q = omega (arith, dc-length s bs h (dcs-at-most bs q), length-padToByte (stepCodes (stepsFrom (pos 0) (codedDcs s bs))))
+dc-bits s bs h q = omega (arith, dc-le bs q s h, length-padToByte (stepCodes (stepsFrom (pos 0) (codedDcs s bs))))
 
-ac-bits : (bs : List (List ℤ)) → AllQuantised bs → bytesFor (length (placesCodes 0 (places bs)) + length (runCode (waitingAfter 0 (places bs)))) ≤ 197 * length bs
+ac-bits : (bs : List (List ℤ)) → AllQuantised bs → bytesFor (length (placesCodes 0 (places bs)) + length (runCode (waitingAfter 0 (places bs)))) ≤ acBlockBytes * length bs
 unfolding acStream
 ac-bits bs q =
-    omega (arith, ac-length bs (ac-small bs q), length-padToByte (symbolCodes 0 (places bs)), ap length (symbols-end 0 (places bs)), length-append (placesCodes 0 (places bs)) (runCode (waitingAfter 0 (places bs))))
+    omega (arith, ac-le bs q, length-padToByte (symbolCodes 0 (places bs)), ap length (symbols-end 0 (places bs)), length-append (placesCodes 0 (places bs)) (runCode (waitingAfter 0 (places bs))))
 
 with-length : (d : ℤ) (z : List ℤ) → length (withDc d z) ≡ length z
 with-length d [] = refl
@@ -77,31 +51,31 @@ places-length [] q = omega arith
 places-length (b ∷ bs) q =
     omega (arith, length-append (withDc (pos 0) b) (places bs), with-length (pos 0) b, q .0 .sixty-four, places-length bs (q .1))
 
-last-small : (s : ℕ) (d : ℤ) (bs : List (List ℤ)) → s ≤ 15 → natAbs d ≤ 2048 → AtMost 2048 (map dcOf bs) → natAbs (lastOf d (codedDcs s bs)) ≤ 2048
+last-small : (s : ℕ) (d : ℤ) (bs : List (List ℤ)) → s ≤ shiftMax → natAbs d ≤ 2048 → AtMost 2048 (map dcOf bs) → natAbs (lastOf d (codedDcs s bs)) ≤ 2048
 last-small s d [] h hd q = hd
 last-small s d (b ∷ bs) h hd q = last-small s (codedDc s (dcOf b)) bs h (dc-near s (dcOf b) h (q .0) .small) (q .1)
 
--- ---- a plane that began at d and a, with room for n blocks, and bs of them coded
-pub record Begun (shift : ℕ) (dc ac : List ℕ) (d a n : ℕ) (bs : List (List ℤ)) (s : PlaneState) (dc1 ac1 : List ℕ) : Type 0 where
-  pub coded : PlaneCoded shift (startOf d a) dc ac bs s dc1 ac1
+-- ---- a plane that began at these positions, with room for n blocks, and bs of them coded
+pub record Begun (shift : ℕ) (dc ac : List ℕ) (at : PerStream) (n : ℕ) (bs : List (List ℤ)) (s : PlaneState) (dc1 ac1 : List ℕ) : Type 0 where
+  pub coded : PlaneCoded shift (startOf at) dc ac bs s dc1 ac1
   pub quantised : AllQuantised bs
-  pub shift-le : shift ≤ 15
-  pub dc-room : d + 4 * n ≤ length dc
-  pub ac-room : a + 197 * n ≤ length ac
+  pub shift-le : shift ≤ shiftMax
+  pub dc-room : at .dc + dcBlockBytes * n ≤ length dc
+  pub ac-room : at .ac + acBlockBytes * n ≤ length ac
   pub few : n ≤ 1920
 
 -- what was written, as bits from the start
-dc-wrote : {shift : ℕ} {dc ac : List ℕ} {d a n : ℕ} {bs : List (List ℤ)} {s : PlaneState} {dc1 ac1 : List ℕ} → Begun shift dc ac d a n bs s dc1 ac1
-    → Wrote dc d (stepCodes (stepsFrom (pos 0) (codedDcs shift bs))) (s .dc) dc1
+dc-wrote : {shift : ℕ} {dc ac : List ℕ} {at : PerStream} {n : ℕ} {bs : List (List ℤ)} {s : PlaneState} {dc1 ac1 : List ℕ} → Begun shift dc ac at n bs s dc1 ac1
+    → Wrote dc (at .dc) (stepCodes (stepsFrom (pos 0) (codedDcs shift bs))) (s .dc) dc1
 unfolding bitsOf
 dc-wrote b = b .coded .dc-put
 
-ac-wrote : {shift : ℕ} {dc ac : List ℕ} {d a n : ℕ} {bs : List (List ℤ)} {s : PlaneState} {dc1 ac1 : List ℕ} → Begun shift dc ac d a n bs s dc1 ac1
-    → Wrote ac a (placesCodes 0 (places bs)) (s .ac) ac1
+ac-wrote : {shift : ℕ} {dc ac : List ℕ} {at : PerStream} {n : ℕ} {bs : List (List ℤ)} {s : PlaneState} {dc1 ac1 : List ℕ} → Begun shift dc ac at n bs s dc1 ac1
+    → Wrote ac (at .ac) (placesCodes 0 (places bs)) (s .ac) ac1
 unfolding bitsOf
 ac-wrote b = b .coded .ac-put
 
-module _ {shift : ℕ} {dc ac : List ℕ} {d a n : ℕ} {bs : List (List ℤ)} {s : PlaneState} {dc1 ac1 : List ℕ} (b : Begun shift dc ac d a n bs s dc1 ac1) where
+module _ {shift : ℕ} {dc ac : List ℕ} {at : PerStream} {n : ℕ} {bs : List (List ℤ)} {s : PlaneState} {dc1 ac1 : List ℕ} (b : Begun shift dc ac at n bs s dc1 ac1) where
   -- one block more
   pub block-room : (z : List ℤ) → Quantised z → length bs < n → BlockRoom shift s dc1 ac1 z
   block-room z q l =
@@ -138,7 +112,7 @@ module _ {shift : ℕ} {dc ac : List ℕ} {d a n : ℕ} {bs : List (List ℤ)} {
       }
 
   -- a block is coded
-  pub begun-next : (z : List ℤ) {r : PlaneState} {dc2 ac2 : List ℕ} → Quantised z → PlaneCoded shift s dc1 ac1 (z ∷ []) r dc2 ac2 → Begun shift dc ac d a n (bs ++ (z ∷ [])) r dc2 ac2
+  pub begun-next : (z : List ℤ) {r : PlaneState} {dc2 ac2 : List ℕ} → Quantised z → PlaneCoded shift s dc1 ac1 (z ∷ []) r dc2 ac2 → Begun shift dc ac at n (bs ++ (z ∷ [])) r dc2 ac2
   begun-next z q c = record {
     coded = coded-more (b .coded) c;
     quantised = all-append bs (z ∷ []) (b .quantised) (q, tt);

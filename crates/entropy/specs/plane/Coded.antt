@@ -8,16 +8,17 @@ use lib.ListN.{length}
 use Rattle.scalar.specs.Tab.{lane}
 use Rattle.bits.specs.Bits.{bitsOf, runCode, bytesFor, padToByte}
 use Rattle.bits.specs.Lay.{lay}
+use Rattle.ask.specs.Limits.{shiftMax}
+use Rattle.calls.specs.Arguments.{PerStream}
 use Rattle.calls.specs.Streams.{codedDc, stepsFrom, stepCode, stepCodes, dcOf, withDc, joined}
 use Rattle.bitwriter.specs.declared.BitAcc.{BitAcc}
 use Rattle.bitwriter.specs.Put.{start, Put, Room, LastRoom}
 use Rattle.entropy.specs.block.Places.{placesCodes, waitingAfter, Small}
 use Rattle.entropy.specs.declared.plane.PlaneState.{PlaneState}
-use Rattle.entropy.specs.declared.plane.Ends.{Ends}
 
 -- "the prediction starts at 0 in each plane"; no zero waits
-abbrev pub startOf : ℕ → ℕ → PlaneState
-startOf d a = record { dc = start d; ac = start a; run = 0; pred = pos 0 }
+abbrev pub startOf : PerStream → PlaneState
+startOf at = record { dc = start (at .dc); ac = start (at .ac); run = 0; pred = pos 0 }
 
 -- the coded DCs of blocks, and all their places, place 0 taken as zero
 abbrev pub codedDcs : ℕ → List (List ℤ) → List ℤ
@@ -40,7 +41,7 @@ pub record PlaneCoded (shift : ℕ) (s : PlaneState) (dc ac : List ℕ) (bs : Li
 
 -- what a block asks: small numbers, and room for its codes
 pub record BlockRoom (shift : ℕ) (s : PlaneState) (dc ac : List ℕ) (z : List ℤ) : Type 0 where
-  pub shift-le : shift ≤ 15
+  pub shift-le : shift ≤ shiftMax
   pub small : Small z
   pub pred-small : natAbs (s .pred) ≤ 2048
   pub run-few : s .run + 64 ≤ 2 ^ 17
@@ -59,8 +60,8 @@ pub record EndRoom (s : PlaneState) (dc ac : List ℕ) : Type 0 where
   pub ac-low : s .ac .acc < 2 ^ s .ac .nbits
   pub ac-room : s .ac .pos + bytesFor (length (lastBits s)) ≤ length ac
 
--- both streams, ended
-pub record Ended (s : PlaneState) (dc ac : List ℕ) (r : Ends) (dc' ac' : List ℕ) : Type 0 where
+-- both streams, ended at r
+pub record Ended (s : PlaneState) (dc ac : List ℕ) (r : PerStream) (dc' ac' : List ℕ) : Type 0 where
   pub dc-bytes : dc' ≡ lay dc (s .dc .pos) (padToByte (bitsOf (s .dc .nbits) (s .dc .acc)))
   pub dc-end : r .dc ≡ s .dc .pos + bytesFor (s .dc .nbits)
   pub ac-bytes : ac' ≡ lay ac (s .ac .pos) (padToByte (lastBits s))

@@ -4,9 +4,10 @@ use Prim.Native.Nat.{ℕ}
 use Rattle.slice.specs.Calls.{Coded}
 use Rattle.questions.specs.declared.answers.CodeAnswer.{CodeAnswer}
 use Rattle.questions.specs.declared.answers.CodeAnswer.the-variants.{Refused, Accepted}
-use Rattle.calls.specs.Arguments.{buffers, positions}
+use Rattle.calls.specs.Arguments.{buffers}
+use Rattle.calls.specs.Views.{positionsBy}
 
 -- document 01's number and positions of an answer, with both buffers as they are now
 abbrev pub answered : CodeAnswer → List ℕ → List ℕ → Coded
-answered (Refused n d a) dcs acs = record { number = n; at = positions d a; buffers = buffers dcs acs }
-answered (Accepted d a) dcs acs = record { number = 0; at = positions d a; buffers = buffers dcs acs }
+answered (Refused n at) dcs acs = record { number = n; at = positionsBy at; buffers = buffers dcs acs }
+answered (Accepted at) dcs acs = record { number = 0; at = positionsBy at; buffers = buffers dcs acs }
