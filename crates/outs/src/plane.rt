@@ -20,14 +20,14 @@ pub fn coded_out(answer: CodeAnswer, dc_at: &mut usize, ac_at: &mut usize) -> u3
         → codedAs r (now («dc_at» .exit)) (now («ac_at» .exit)) dcs acs ≡ codedAnswered answer dcs acs) ⌝ }
 {
     match answer {
-        CodeAnswer::Refused(number, d0, a0) => {
-            *dc_at = d0;
-            *ac_at = a0;
+        CodeAnswer::Refused(number, start) => {
+            *dc_at = start.dc;
+            *ac_at = start.ac;
             number
         }
-        CodeAnswer::Accepted(d1, a1) => {
-            *dc_at = d1;
-            *ac_at = a1;
+        CodeAnswer::Accepted(end) => {
+            *dc_at = end.dc;
+            *ac_at = end.ac;
             0
         }
     }
