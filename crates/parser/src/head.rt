@@ -81,18 +81,18 @@ fn byte_number(height: usize, f: &[u8]) -> u32
     ask::or_else(format, NO_FORMAT, from_shift)
 }
 
-// The first "no" among the questions about the header, 0 where there is none. No byte is read before the answers about the
-// size and the five bytes are yes: there the call returns early.
+// The first "no" among the questions about the header, 0 where there is none. The bytes are asked about only where the size
+// is legal and five bytes are there.
 pub fn header_number(width: usize, height: usize, f: &[u8]) -> u32
     ensures { λ r. ⌜ r ≡ firstNo (headerQuestions width height (now (f .entry))) ⌝ }
 {
     let size = layout::size_ok(width, height);
-    let from_bytes = ask::or_else(5 <= f.len(), NO_BYTES, 0);
-    let before = ask::or_else(size, NO_SIZE, from_bytes);
-    if 0 < before {
-        return before;
+    let five = 5 <= f.len();
+    if ask::both(size, five) {
+        return byte_number(height, f);
     }
-    byte_number(height, f)
+    let from_bytes = ask::or_else(five, NO_BYTES, 0);
+    ask::or_else(size, NO_SIZE, from_bytes)
 }
 
 // What the header says.
