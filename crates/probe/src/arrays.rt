@@ -36,25 +36,26 @@ pub fn block(s: &[i16]) -> [i16; 64] {
     r
 }
 
-pub fn put_row(out: &mut [i16], v: [i16; 8]) {
-    if 8 <= out.len() {
-        for k in 0..8 {
+// Stores numbers where there is room for all of them.
+fn put(out: &mut [i16], v: &[i16]) {
+    if v.len() <= out.len() {
+        for k in 0..v.len() {
             out[k] = v[k];
         }
     }
+}
+
+pub fn put_row(out: &mut [i16], v: [i16; 8]) {
+    put(out, &v);
+}
+
+pub fn put_block(out: &mut [i16], v: [i16; 64]) {
+    put(out, &v);
 }
 
 pub fn put_wide(out: &mut [i32], v: [i32; 4]) {
     if 4 <= out.len() {
         for k in 0..4 {
-            out[k] = v[k];
-        }
-    }
-}
-
-pub fn put_block(out: &mut [i16], v: [i16; 64]) {
-    if 64 <= out.len() {
-        for k in 0..64 {
             out[k] = v[k];
         }
     }

@@ -1,26 +1,9 @@
-// Many blocks a call, so that the oracle can time a block: a row of blocks, transformed one behind the other.
+// Many blocks a call, so that the oracle can time a block: a row of blocks, transformed one after the other.
 // No contract beyond being safe on any arguments.
 ghost use Prim.Native.Nat.{_≤_};
 ghost use Rattle.ask.specs.Limits.{strideMax};
-
-// A block of 64 out of lent numbers; zeros where there are fewer.
-fn block(s: &[i16]) -> [i16; 64] {
-    let mut r = [0i16; 64];
-    if 64 <= s.len() {
-        for k in 0..64 {
-            r[k] = s[k];
-        }
-    }
-    r
-}
-
-fn put_block(out: &mut [i16], v: [i16; 64]) {
-    if 64 <= out.len() {
-        for k in 0..64 {
-            out[k] = v[k];
-        }
-    }
-}
+use crate::arrays::block;
+use crate::arrays::put_block;
 
 // Forward transform, quantiser and scan of a row of 8-bit blocks.
 #[no_mangle]

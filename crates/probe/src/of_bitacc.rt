@@ -26,16 +26,10 @@ fn run_value(a: BitAcc, n: u32, c: u32, out: &mut [u8]) -> BitAcc
     requires { ⌜ Going a × Fits a (now out) ⌝ }
     ensures { λ r. ⌜ Going r ⌝ }
 {
-    if c == 0 {
-        return a;
+    if probe_pairs::taken(n, c) {
+        return bitwriter::put_run_value(a, n, c, out);
     }
-    if 32767 < c {
-        return a;
-    }
-    if 131071 < n {
-        return a;
-    }
-    bitwriter::put_run_value(a, n, c, out)
+    a
 }
 
 fn one(a: BitAcc, kind: u8, n: u32, c: u32, out: &mut [u8]) -> BitAcc

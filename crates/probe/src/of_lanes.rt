@@ -1,4 +1,4 @@
-// The lane operations (crates lanes, lanes::*).
+// The lane operations (crate lanes).
 use crate::arrays::numbers;
 use crate::arrays::put_row;
 use crate::arrays::put_wide;

@@ -1,4 +1,4 @@
-// The quantiser numbers and the scan (crates tables, tables::reciprocals).
+// The quantiser numbers and the scan (crate tables).
 
 // Number i of a preset's 192: the corrections, the reciprocals, the scales of its 64 places (`encode` of QuantTables).
 #[no_mangle]

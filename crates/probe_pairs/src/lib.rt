@@ -1,4 +1,4 @@
-// Many pairs a call, so that the oracle can time the bit writer by itself: runs with values, one behind the other.
+// Many pairs a call, so that the oracle can time the bit writer by itself: runs with values, one after the other.
 // No contract beyond being safe on any arguments.
 ghost use mathlib.Core.Path.{_≡_};
 ghost use mathlib.Core.Bool.{true};
@@ -6,7 +6,7 @@ ghost use Prim.Native.Nat.{_^_, _<_};
 use bitwriter::BitAcc;
 
 // Whether the writer takes a run and a value together.
-fn taken(n: u32, c: u32) -> bool
+pub fn taken(n: u32, c: u32) -> bool
     ensures { λ r. ⌜ (r ≡ true → (n < 2 ^ 17) × (0 < c) × (c < 2 ^ 15)) ⌝ }
 {
     if c == 0 {

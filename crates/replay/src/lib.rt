@@ -21,8 +21,8 @@ fn wide16(x: u16) -> usize
     x as usize
 }
 
-// A refusal's number.
-pub fn refusal(b: u8) -> u32 {
+// A byte as a number of four bytes: a refusal's number, an operation.
+pub fn byte32(b: u8) -> u32 {
     b as u32
 }
 
@@ -270,7 +270,7 @@ pub fn answered(b: &[u8], number: u32, d: usize, a: usize) -> bool {
     if b.len() < 72 {
         return false;
     }
-    if refusal(b[2]) != number {
+    if byte32(b[2]) != number {
         return false;
     }
     if position(b, 56) != d {

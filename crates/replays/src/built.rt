@@ -6,10 +6,10 @@ use builder::HeaderAnswer;
 use builder::Shift;
 use builder::streams::StreamAnswer;
 use replay::Record;
+use replay::byte32;
 use replay::number;
 use replay::part;
 use replay::position;
-use replay::refusal;
 use replay::size;
 use replay::wide;
 
@@ -37,7 +37,7 @@ fn number_of(b: &Record, k: usize) -> u32 {
     if 7 < k {
         return 255;
     }
-    refusal(b[34 + 8 * k])
+    byte32(b[34 + 8 * k])
 }
 
 // Hands over the k-th stream.
@@ -86,10 +86,10 @@ fn streams(b: &Record, bytes: &[u8], started: Builder, out: &mut [u8]) -> bool {
     s.at == position(b, 24)
 }
 
-// The header and the streams, into a buffer of the record's length.
-fn frame(b: &Record, out: &mut [u8]) -> bool {
+// The call for the header.
+fn start_frame(b: &Record, out: &mut [u8]) -> HeaderAnswer {
     let shift = shift_of(size(b, 8) == 1, replay::widened(number(b, 10)));
-    match builder::start_frame(
+    builder::start_frame(
         size(b, 0),
         size(b, 2),
         b[4] == 1,
@@ -97,15 +97,20 @@ fn frame(b: &Record, out: &mut [u8]) -> bool {
         shift,
         out,
         position(b, 16),
-    ) {
-        HeaderAnswer::Refused(x) => x == refusal(b[6]),
-        HeaderAnswer::Started(s) => {
-            if b[6] != 0 {
-                return false;
-            }
-            let bytes = repeated(b);
-            streams(b, &bytes, s, out)
-        }
+    )
+}
+
+// The streams of a frame whose header is there.
+fn started(b: &Record, s: Builder, out: &mut [u8]) -> bool {
+    let bytes = repeated(b);
+    b[6] == 0 && streams(b, &bytes, s, out)
+}
+
+// The header and the streams, into a buffer of the record's length.
+fn frame(b: &Record, out: &mut [u8]) -> bool {
+    match start_frame(b, out) {
+        HeaderAnswer::Refused(x) => x == byte32(b[6]),
+        HeaderAnswer::Started(s) => started(b, s, out),
     }
 }
 

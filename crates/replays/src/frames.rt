@@ -6,8 +6,8 @@ use layout::Kind;
 use parser::FrameAnswer;
 use parser::ViewAnswer;
 use replay::Record;
+use replay::byte32;
 use replay::part;
-use replay::refusal;
 use replay::size;
 use replay::wide;
 
@@ -47,7 +47,7 @@ fn same_header(b: &Record, interlaced: bool, quality: u8, shift: u8, len: usize,
 // The header, or its refusal.
 fn header(b: &Record, width: usize, height: usize, frame: &[u8]) -> bool {
     match parser::parse(width, height, frame) {
-        FrameAnswer::Refused(x) => x == refusal(b[7]),
+        FrameAnswer::Refused(x) => x == byte32(b[7]),
         FrameAnswer::Frame(h) => {
             same_header(b, h.interlaced, h.quality, h.dc_shift, h.header_len, h.ac)
         }
@@ -69,7 +69,7 @@ fn same_place(b: &Record, at: usize, len: usize) -> bool {
 fn place(b: &Record, width: usize, height: usize, frame: &[u8]) -> bool {
     let kind = kind_of(b[5] == 1);
     match parser::view_at(width, height, frame, kind, wide(b[6])) {
-        ViewAnswer::Refused(x) => x == refusal(b[13]),
+        ViewAnswer::Refused(x) => x == byte32(b[13]),
         ViewAnswer::Part(p, n) => same_place(b, p, n),
     }
 }
@@ -80,7 +80,7 @@ fn same_view(b: &Record, view: usize, table: &[u32; TABLE]) -> bool {
         return false;
     }
     let i = 2 * view;
-    table[i] == refusal(b[14]) && table[i + 1] == refusal(b[15])
+    table[i] == byte32(b[14]) && table[i + 1] == byte32(b[15])
 }
 
 // The place asked for in the table: 0 and 0 where the frame has no AC. Of a slice that is not there it says nothing.
@@ -106,7 +106,7 @@ fn in_table(b: &Record, height: usize, table: &[u32; TABLE]) -> bool {
 fn tabled(b: &Record, width: usize, height: usize, frame: &[u8]) -> bool {
     let mut table = [7u32; TABLE];
     match views::all_views(width, height, frame, &mut table) {
-        FrameAnswer::Refused(x) => x == refusal(b[7]) && table[0] == 7,
+        FrameAnswer::Refused(x) => x == byte32(b[7]) && table[0] == 7,
         FrameAnswer::Frame(h) => {
             same_header(b, h.interlaced, h.quality, h.dc_shift, h.header_len, h.ac)
                 && in_table(b, height, &table)

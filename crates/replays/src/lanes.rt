@@ -3,6 +3,7 @@
 use probe::of_lanes;
 use probe::of_shuffles;
 use replay::Record;
+use replay::byte32;
 use replay::read_lanes;
 use replay::read_lanes32;
 
@@ -37,13 +38,22 @@ fn narrow(b: &Record) -> bool {
     let y = row(b, 18);
     let mut r = [0i16; 8];
     let op = b[0];
-    let n = b[1];
     if op < 10 {
-        of_lanes::probe_lanes_two(op as u32, &x, &y, &mut r);
-    } else if op < 13 {
-        of_lanes::probe_lanes_one((op - 10) as u32, &x, n, &mut r);
-    } else if op < 16 {
-        of_shuffles::probe_shuffles_row((op - 13) as u32, &x, n, &mut r);
+        of_lanes::probe_lanes_two(byte32(op), &x, &y, &mut r);
+    } else {
+        of_lanes::probe_lanes_one(byte32(op - 10), &x, b[1], &mut r);
+    }
+    has_row(b, &r)
+}
+
+// A shuffle of rows of eight lanes.
+fn shuffled(b: &Record) -> bool {
+    let x = row(b, 2);
+    let y = row(b, 18);
+    let mut r = [0i16; 8];
+    let op = b[0] % 13;
+    if op < 3 {
+        of_shuffles::probe_shuffles_row(byte32(op), &x, b[1], &mut r);
     } else {
         of_shuffles::probe_shuffles_unpacklo32(&x, &y, &mut r);
     }
@@ -58,7 +68,7 @@ fn wide(b: &Record) -> bool {
     let op = b[0] % 10;
     let n = b[1];
     if op < 3 {
-        of_lanes::probe_lanes_two32(op as u32, &x, &y, n, &mut r);
+        of_lanes::probe_lanes_two32(byte32(op), &x, &y, n, &mut r);
     } else {
         of_shuffles::probe_shuffles_wide(&x, n, &mut r);
     }
@@ -84,13 +94,18 @@ fn packed(b: &Record) -> bool {
 }
 
 pub fn holds(b: &Record) -> bool {
-    if b[0] < 20 {
-        narrow(b)
-    } else if b[0] < 30 {
-        wide(b)
-    } else if b[0] == 30 {
-        widened(b)
-    } else {
-        packed(b)
+    let op = b[0];
+    if op < 13 {
+        return narrow(b);
     }
+    if op < 20 {
+        return shuffled(b);
+    }
+    if op < 30 {
+        return wide(b);
+    }
+    if op == 30 {
+        return widened(b);
+    }
+    packed(b)
 }

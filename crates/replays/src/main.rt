@@ -83,13 +83,23 @@ fn replayed(p: Part, name: &[u8]) {
     replay::say(name, &counts);
 }
 
-fn main() {
+// The functions that the probes open.
+fn inner() {
     replayed(Part::Bits, b"bits");
-    replayed(Part::Built, b"built");
     replayed(Part::Dct, b"dct");
-    replayed(Part::Frames, b"frames");
     replayed(Part::Lanes, b"lanes");
+    replayed(Part::Tables, b"tables");
+}
+
+// The calls on frames, planes and slices.
+fn calls() {
+    replayed(Part::Built, b"built");
+    replayed(Part::Frames, b"frames");
     replayed(Part::Planes, b"planes");
     replayed(Part::Reads, b"reads");
-    replayed(Part::Tables, b"tables");
+}
+
+fn main() {
+    inner();
+    calls();
 }

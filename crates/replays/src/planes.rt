@@ -52,69 +52,117 @@ fn samples10(b: &Record) -> [u16; 512] {
     r
 }
 
+// The rows of plane k among the samples.
+fn rows8<'a>(b: &Record, k: usize, rows: &'a [u8]) -> &'a [u8] {
+    if 3 < k {
+        return &rows[..0];
+    }
+    part(rows, size(b, 24 + 2 * k), size(b, 32 + 2 * k))
+}
+
+fn rows10<'a>(b: &Record, k: usize, rows: &'a [u16]) -> &'a [u16] {
+    if 3 < k {
+        return &rows[..0];
+    }
+    part16(rows, size(b, 24 + 2 * k), size(b, 32 + 2 * k))
+}
+
 // The call on an 8-bit plane.
 fn encode_plane8(c: Asked, rows: &[u8], dcs: &mut [u8], acs: &mut [u8]) -> CodeAnswer {
-    let p = part(rows, c.starts[0], c.counts[0]);
-    encoder::eight::encode_plane(p, shape(c), settings(c), dcs, acs, positions(c))
+    encoder::eight::encode_plane(rows, shape(c), settings(c), dcs, acs, positions(c))
 }
 
 // The call on a 10-bit plane.
 fn encode_plane10(c: Asked, rows: &[u16], dcs: &mut [u8], acs: &mut [u8]) -> CodeAnswer {
-    let p = part16(rows, c.starts[0], c.counts[0]);
-    encoder::ten::encode_plane(p, shape(c), settings(c), dcs, acs, positions(c))
+    encoder::ten::encode_plane(rows, shape(c), settings(c), dcs, acs, positions(c))
 }
 
 // The call on an 8-bit slice.
-fn encode_slice8(c: Asked, rows: &[u8], dcs: &mut [u8], acs: &mut [u8]) -> CodeAnswer {
-    let p0 = part(rows, c.starts[0], c.counts[0]);
-    let p1 = part(rows, c.starts[1], c.counts[1]);
-    let p2 = part(rows, c.starts[2], c.counts[2]);
-    let p3 = part(rows, c.starts[3], c.counts[3]);
+fn encode_slice8(
+    c: Asked,
+    p0: &[u8],
+    p1: &[u8],
+    p2: &[u8],
+    p3: &[u8],
+    dcs: &mut [u8],
+    acs: &mut [u8],
+) -> CodeAnswer {
     encoder::eight::encode_slice(p0, p1, p2, p3, four(c), settings(c), dcs, acs, positions(c))
 }
 
 // The call on a 10-bit slice.
-fn encode_slice10(c: Asked, rows: &[u16], dcs: &mut [u8], acs: &mut [u8]) -> CodeAnswer {
-    let p0 = part16(rows, c.starts[0], c.counts[0]);
-    let p1 = part16(rows, c.starts[1], c.counts[1]);
-    let p2 = part16(rows, c.starts[2], c.counts[2]);
-    let p3 = part16(rows, c.starts[3], c.counts[3]);
+fn encode_slice10(
+    c: Asked,
+    p0: &[u16],
+    p1: &[u16],
+    p2: &[u16],
+    p3: &[u16],
+    dcs: &mut [u8],
+    acs: &mut [u8],
+) -> CodeAnswer {
     encoder::ten::encode_slice(p0, p1, p2, p3, four(c), settings(c), dcs, acs, positions(c))
 }
 
-// A call on 8-bit rows.
-fn eight(b: &Record, dcs: &mut [u8], acs: &mut [u8]) -> CodeAnswer {
+// A plane of 8-bit samples.
+fn plane8(b: &Record, dcs: &mut [u8], acs: &mut [u8]) -> CodeAnswer {
     let rows = samples8(b);
-    if b[0] == 0 {
-        encode_plane8(call_of(b), &rows, dcs, acs)
-    } else {
-        encode_slice8(call_of(b), &rows, dcs, acs)
-    }
+    encode_plane8(call_of(b), rows8(b, 0, &rows), dcs, acs)
 }
 
-// A call on 10-bit rows.
-fn ten(b: &Record, dcs: &mut [u8], acs: &mut [u8]) -> CodeAnswer {
+// A plane of 10-bit samples.
+fn plane10(b: &Record, dcs: &mut [u8], acs: &mut [u8]) -> CodeAnswer {
     let rows = samples10(b);
-    if b[0] == 1 {
-        encode_plane10(call_of(b), &rows, dcs, acs)
-    } else {
-        encode_slice10(call_of(b), &rows, dcs, acs)
-    }
+    encode_plane10(call_of(b), rows10(b, 0, &rows), dcs, acs)
+}
+
+// A slice of 8-bit samples.
+fn slice8(b: &Record, dcs: &mut [u8], acs: &mut [u8]) -> CodeAnswer {
+    let rows = samples8(b);
+    encode_slice8(
+        call_of(b),
+        rows8(b, 0, &rows),
+        rows8(b, 1, &rows),
+        rows8(b, 2, &rows),
+        rows8(b, 3, &rows),
+        dcs,
+        acs,
+    )
+}
+
+// A slice of 10-bit samples.
+fn slice10(b: &Record, dcs: &mut [u8], acs: &mut [u8]) -> CodeAnswer {
+    let rows = samples10(b);
+    encode_slice10(
+        call_of(b),
+        rows10(b, 0, &rows),
+        rows10(b, 1, &rows),
+        rows10(b, 2, &rows),
+        rows10(b, 3, &rows),
+        dcs,
+        acs,
+    )
 }
 
 // The call that the record names.
 fn called(b: &Record, dcs: &mut [u8], acs: &mut [u8]) -> CodeAnswer {
-    if b[0] % 2 == 0 {
-        eight(b, dcs, acs)
-    } else {
-        ten(b, dcs, acs)
+    match b[0] {
+        0 => plane8(b, dcs, acs),
+        1 => plane10(b, dcs, acs),
+        2 => slice8(b, dcs, acs),
+        _ => slice10(b, dcs, acs),
     }
 }
 
 fn same_answer(b: &Record, r: CodeAnswer) -> bool {
     match r {
-        CodeAnswer::Refused(x, d, a) => { if x == 0 { false } else { answered(b, x, d, a) } }
-        CodeAnswer::Accepted(d, a) => answered(b, 0, d, a),
+        CodeAnswer::Refused(x, at) => {
+            if x == 0 {
+                false
+            } else {
+                answered(b, x, at.dc, at.ac)
+            }
+        }
+        CodeAnswer::Accepted(at) => answered(b, 0, at.dc, at.ac),
     }
 }
 

@@ -16,6 +16,7 @@ use replay::call_of;
 use replay::cut;
 use replay::cut16;
 use replay::part;
+use replay::position;
 use replay::size;
 
 pub const LENGTH: usize = 808;
@@ -41,83 +42,64 @@ fn same_answer(b: &[u8], r: ReadAnswer) -> bool {
 }
 
 // The call on an 8-bit plane.
-fn decode_plane8(b: &[u8], c: Asked, dc: &[u8], ac: &[u8], rows: &mut [u8]) -> bool {
-    let p = cut(rows, c.counts[0]);
-    let r = decoder::eight::decode_plane(p, shape(c), settings(c), dc, ac, positions(c));
-    same_answer(b, r)
+fn decode_plane8(c: Asked, rows: &mut [u8], dc: &[u8], ac: &[u8]) -> ReadAnswer {
+    decoder::eight::decode_plane(rows, shape(c), settings(c), dc, ac, positions(c))
 }
 
 // The call on a 10-bit plane.
-fn decode_plane10(b: &[u8], c: Asked, dc: &[u8], ac: &[u8], rows: &mut [u16]) -> bool {
-    let p = cut16(rows, c.counts[0]);
-    let r = decoder::ten::decode_plane(p, shape(c), settings(c), dc, ac, positions(c));
-    same_answer(b, r)
+fn decode_plane10(c: Asked, rows: &mut [u16], dc: &[u8], ac: &[u8]) -> ReadAnswer {
+    decoder::ten::decode_plane(rows, shape(c), settings(c), dc, ac, positions(c))
 }
 
 // The call on an 8-bit slice.
 fn decode_slice8(
-    b: &[u8],
     c: Asked,
-    dc: &[u8],
-    ac: &[u8],
     p0: &mut [u8],
     p1: &mut [u8],
     p2: &mut [u8],
     p3: &mut [u8],
-) -> bool {
-    let q0 = cut(p0, c.counts[0]);
-    let q1 = cut(p1, c.counts[1]);
-    let q2 = cut(p2, c.counts[2]);
-    let q3 = cut(p3, c.counts[3]);
-    let r = decoder::eight::decode_slice(
-        q0,
-        q1,
-        q2,
-        q3,
-        four(c),
-        settings(c),
-        dc,
-        ac,
-        positions(c),
-    );
-    same_answer(b, r)
+    dc: &[u8],
+    ac: &[u8],
+) -> ReadAnswer {
+    decoder::eight::decode_slice(p0, p1, p2, p3, four(c), settings(c), dc, ac, positions(c))
 }
 
 // The call on a 10-bit slice.
 fn decode_slice10(
-    b: &[u8],
     c: Asked,
-    dc: &[u8],
-    ac: &[u8],
     p0: &mut [u16],
     p1: &mut [u16],
     p2: &mut [u16],
     p3: &mut [u16],
-) -> bool {
-    let q0 = cut16(p0, c.counts[0]);
-    let q1 = cut16(p1, c.counts[1]);
-    let q2 = cut16(p2, c.counts[2]);
-    let q3 = cut16(p3, c.counts[3]);
-    let r = decoder::ten::decode_slice(q0, q1, q2, q3, four(c), settings(c), dc, ac, positions(c));
-    same_answer(b, r)
+    dc: &[u8],
+    ac: &[u8],
+) -> ReadAnswer {
+    decoder::ten::decode_slice(p0, p1, p2, p3, four(c), settings(c), dc, ac, positions(c))
 }
 
-// The preview, into the first two planes' rows.
-fn preview_of(b: &[u8], c: Asked, dc: &[u8], upper: &mut [u8], lower: &mut [u8]) -> bool {
-    let above = cut(upper, c.counts[0]);
-    let below = cut(lower, c.counts[1]);
-    match preview::preview(c.shift, shape(c), above, below, dc, c.d) {
-        PlaneEnd::Refused(x) => answered(b, x, c.d, c.a),
-        PlaneEnd::At(e) => answered(b, 0, e, c.a),
-    }
+// A preview, into the first two planes' rows.
+fn preview(c: Asked, upper: &mut [u8], lower: &mut [u8], dc: &[u8]) -> PlaneEnd {
+    preview::preview(c.shift, shape(c), upper, lower, dc, c.d)
 }
 
-// The block report, into the first plane's rows.
-fn block_report(b: &[u8], c: Asked, ac: &[u8], rows: &mut [u8]) -> bool {
-    match preview::report::block_report(c.strides[0], cut(rows, c.counts[0]), ac, c.a) {
-        PlaneEnd::Refused(x) => answered(b, x, c.d, c.a),
-        PlaneEnd::At(e) => answered(b, 0, c.d, e),
+// A block report, into the first plane's rows.
+fn block_report(c: Asked, rows: &mut [u8], ac: &[u8]) -> PlaneEnd {
+    preview::report::block_report(c.strides[0], rows, ac, c.a)
+}
+
+// Rows of plane k, as many samples as the record says.
+fn rows8<'a>(b: &Record, k: usize, rows: &'a mut [u8]) -> &'a mut [u8] {
+    if 3 < k {
+        return cut(rows, 0);
     }
+    cut(rows, size(b, 32 + 2 * k))
+}
+
+fn rows10<'a>(b: &Record, k: usize, rows: &'a mut [u16]) -> &'a mut [u16] {
+    if 3 < k {
+        return cut16(rows, 0);
+    }
+    cut16(rows, size(b, 32 + 2 * k))
 }
 
 // Whether rows of 8-bit samples hold what is stored for plane k, and the fill after it.
@@ -139,77 +121,140 @@ fn same10(b: &Record, k: usize, rows: &[u16; 280]) -> bool {
     replay::holds_stored16(rows, fill, n, part(b, 296 + 2 * size(b, 24 + 2 * k), 2 * n))
 }
 
-fn all_of(a: bool, b: bool, c: bool, d: bool, e: bool) -> bool {
-    a && b && c && d && e
-}
-
-// An 8-bit plane or a report: one plane's rows.
-fn one8(b: &Record, dc: &[u8], ac: &[u8]) -> bool {
+// A plane of 8-bit samples.
+fn plane8(b: &Record, dc: &[u8], ac: &[u8]) -> bool {
     let mut p = [b[1]; 280];
-    let ok = if b[0] == 0 {
-        decode_plane8(b, call_of(b), dc, ac, &mut p)
-    } else {
-        block_report(b, call_of(b), ac, &mut p)
-    };
-    ok && same8(b, 0, &p)
+    let r = decode_plane8(call_of(b), rows8(b, 0, &mut p), dc, ac);
+    same_answer(b, r) && same8(b, 0, &p)
 }
 
-// A preview: the rows of two planes.
-fn two8(b: &Record, dc: &[u8]) -> bool {
-    let mut p0 = [b[1]; 280];
-    let mut p1 = [b[1]; 280];
-    let ok = preview_of(b, call_of(b), dc, &mut p0, &mut p1);
-    all_of(ok, same8(b, 0, &p0), same8(b, 1, &p1), true, true)
+// A plane of 10-bit samples.
+fn plane10(b: &Record, dc: &[u8], ac: &[u8]) -> bool {
+    let mut p = [replay::twice(b[1]); 280];
+    let r = decode_plane10(call_of(b), rows10(b, 0, &mut p), dc, ac);
+    same_answer(b, r) && same10(b, 0, &p)
 }
 
-// An 8-bit slice.
-fn four8(b: &Record, dc: &[u8], ac: &[u8]) -> bool {
-    let mut p0 = [b[1]; 280];
-    let mut p1 = [b[1]; 280];
-    let mut p2 = [b[1]; 280];
-    let mut p3 = [b[1]; 280];
-    let ok = decode_slice8(b, call_of(b), dc, ac, &mut p0, &mut p1, &mut p2, &mut p3);
-    all_of(
-        ok,
-        same8(b, 0, &p0),
-        same8(b, 1, &p1),
-        same8(b, 2, &p2),
-        same8(b, 3, &p3),
+// The rows of four planes.
+fn all_same8(b: &Record, p0: &[u8; 280], p1: &[u8; 280], p2: &[u8; 280], p3: &[u8; 280]) -> bool {
+    same8(b, 0, p0) && same8(b, 1, p1) && same8(b, 2, p2) && same8(b, 3, p3)
+}
+
+// The call on a slice, on the parts of these rows that the record names.
+fn read_slice8(
+    b: &Record,
+    dc: &[u8],
+    ac: &[u8],
+    p0: &mut [u8],
+    p1: &mut [u8],
+    p2: &mut [u8],
+    p3: &mut [u8],
+) -> ReadAnswer {
+    decode_slice8(
+        call_of(b),
+        rows8(b, 0, p0),
+        rows8(b, 1, p1),
+        rows8(b, 2, p2),
+        rows8(b, 3, p3),
+        dc,
+        ac,
     )
 }
 
-// A 10-bit plane.
-fn one10(b: &Record, dc: &[u8], ac: &[u8]) -> bool {
-    let mut p = [replay::twice(b[1]); 280];
-    let ok = decode_plane10(b, call_of(b), dc, ac, &mut p);
-    ok && same10(b, 0, &p)
+// A slice of 8-bit samples.
+fn slice8(b: &Record, dc: &[u8], ac: &[u8]) -> bool {
+    let fill = b[1];
+    let mut p0 = [fill; 280];
+    let mut p1 = [fill; 280];
+    let mut p2 = [fill; 280];
+    let mut p3 = [fill; 280];
+    let r = read_slice8(b, dc, ac, &mut p0, &mut p1, &mut p2, &mut p3);
+    same_answer(b, r) && all_same8(b, &p0, &p1, &p2, &p3)
 }
 
-// A 10-bit slice.
-fn four10(b: &Record, dc: &[u8], ac: &[u8]) -> bool {
+// The rows of four planes.
+fn all_same10(
+    b: &Record,
+    p0: &[u16; 280],
+    p1: &[u16; 280],
+    p2: &[u16; 280],
+    p3: &[u16; 280],
+) -> bool {
+    same10(b, 0, p0) && same10(b, 1, p1) && same10(b, 2, p2) && same10(b, 3, p3)
+}
+
+// The call on a slice, on the parts of these rows that the record names.
+fn read_slice10(
+    b: &Record,
+    dc: &[u8],
+    ac: &[u8],
+    p0: &mut [u16],
+    p1: &mut [u16],
+    p2: &mut [u16],
+    p3: &mut [u16],
+) -> ReadAnswer {
+    decode_slice10(
+        call_of(b),
+        rows10(b, 0, p0),
+        rows10(b, 1, p1),
+        rows10(b, 2, p2),
+        rows10(b, 3, p3),
+        dc,
+        ac,
+    )
+}
+
+// A slice of 10-bit samples.
+fn slice10(b: &Record, dc: &[u8], ac: &[u8]) -> bool {
     let fill = replay::twice(b[1]);
     let mut p0 = [fill; 280];
     let mut p1 = [fill; 280];
     let mut p2 = [fill; 280];
     let mut p3 = [fill; 280];
-    let ok = decode_slice10(b, call_of(b), dc, ac, &mut p0, &mut p1, &mut p2, &mut p3);
-    all_of(
-        ok,
-        same10(b, 0, &p0),
-        same10(b, 1, &p1),
-        same10(b, 2, &p2),
-        same10(b, 3, &p3),
-    )
+    let r = read_slice10(b, dc, ac, &mut p0, &mut p1, &mut p2, &mut p3);
+    same_answer(b, r) && all_same10(b, &p0, &p1, &p2, &p3)
+}
+
+// The answer to a preview.
+fn same_preview(b: &Record, r: PlaneEnd) -> bool {
+    match r {
+        PlaneEnd::Refused(x) => answered(b, x, position(b, 40), position(b, 48)),
+        PlaneEnd::At(e) => answered(b, 0, e, position(b, 48)),
+    }
+}
+
+// A preview: the rows of two planes.
+fn previewed(b: &Record, dc: &[u8]) -> bool {
+    let mut p0 = [b[1]; 280];
+    let mut p1 = [b[1]; 280];
+    let r = preview(call_of(b), rows8(b, 0, &mut p0), rows8(b, 1, &mut p1), dc);
+    same_preview(b, r) && same8(b, 0, &p0) && same8(b, 1, &p1)
+}
+
+// The answer to a report.
+fn same_report(b: &Record, r: PlaneEnd) -> bool {
+    match r {
+        PlaneEnd::Refused(x) => answered(b, x, position(b, 40), position(b, 48)),
+        PlaneEnd::At(e) => answered(b, 0, position(b, 40), e),
+    }
+}
+
+// A report: one plane's rows.
+fn reported(b: &Record, ac: &[u8]) -> bool {
+    let mut p = [b[1]; 280];
+    let r = block_report(call_of(b), rows8(b, 0, &mut p), ac);
+    same_report(b, r) && same8(b, 0, &p)
 }
 
 // The call that the record names, on these streams.
 fn called(b: &Record, dc: &[u8], ac: &[u8]) -> bool {
     match b[0] {
-        1 => one10(b, dc, ac),
-        2 => four8(b, dc, ac),
-        3 => four10(b, dc, ac),
-        4 => two8(b, dc),
-        _ => one8(b, dc, ac),
+        0 => plane8(b, dc, ac),
+        1 => plane10(b, dc, ac),
+        2 => slice8(b, dc, ac),
+        3 => slice10(b, dc, ac),
+        4 => previewed(b, dc),
+        _ => reported(b, ac),
     }
 }
 

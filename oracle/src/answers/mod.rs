@@ -25,13 +25,13 @@ type List = (&'static str, fn(&mut Rng) -> (Vec<u8>, usize));
 /// In the program's order.
 const LISTS: [List; 8] = [
     ("bits", bits::list),
-    ("built", built::list),
     ("dct", dct::list),
-    ("frames", frames::list),
     ("lanes", lanes::list),
+    ("tables", tables::list),
+    ("built", built::list),
+    ("frames", frames::list),
     ("planes", planes::list),
     ("reads", reads::list),
-    ("tables", tables::list),
 ];
 
 /// Writes each list to crates/replays/data, and crates/replays/stdout.

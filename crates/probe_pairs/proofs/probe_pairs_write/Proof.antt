@@ -23,41 +23,8 @@ start l = l .before .before .before .before .before .before .before
 roomy : (l : tie.At-loop Inv-loop μ-loop) → let a = start l .args in (a .at ≤ length (a .out .now)) × (length (a .runs .now) ≤ (length (a .out .now) - a .at) / 8)
 roomy l = (search needs, search needs)
 
-returns : tie.Need-returns Inv-loop μ-loop
-returns c = search needs
-
-returns-2 : tie.Need-returns-2 Inv-loop μ-loop
-returns-2 c = search needs
-
-sub-if3 : tie.Need-sub-if3 Inv-loop μ-loop
-sub-if3 c = search needs
-
-returns-3 : tie.Need-returns-3 Inv-loop μ-loop
-returns-3 c = search needs
-
 loop-holds : tie.Need-loop-holds Inv-loop μ-loop
 loop-holds c = (omega arith, refl, (omega arith, omega arith), omega arith)
-
-mul-n : tie.Need-mul-n Inv-loop μ-loop
-mul-n c = search needs
-
-shared-slice-read-n : tie.Need-shared-slice-read-n Inv-loop μ-loop
-shared-slice-read-n c = search needs
-
-mul-c : tie.Need-mul-c Inv-loop μ-loop
-mul-c c = search needs
-
-shared-slice-read-c : tie.Need-shared-slice-read-c Inv-loop μ-loop
-shared-slice-read-c c = search needs
-
-taken-requires : tie.Need-taken-requires Inv-loop μ-loop
-taken-requires c κs = search needs
-
-same-length : tie.Need-same-length Inv-loop μ-loop
-same-length c = search needs
-
-returns-4 : tie.Need-returns-4 Inv-loop μ-loop
-returns-4 c = search needs
 
 not-false : (b : Bool) → not b ≡ false → b ≡ true
 not-false true e = refl
@@ -77,12 +44,6 @@ put-run-value-requires c κs =
     let f : Fits (l .loop .a) (s .args .out .now) = pair-fits (s .args .at) (length (s .args .runs .now)) (l .loop .i) _ (length (s .args .out .now)) (roomy l .0) (roomy l .1) (e .before .before .before .before .loop-test .taken) (l .loop .inv .3) in
     (k .0, k .1, k .2, room-of (l .loop .a) _ (l .loop .out) (l .loop .inv .2, rw (l .loop .inv .1) f) (both-long _ _ (k .0) (k .1) (k .2)))
 
-add-i : tie.Need-add-i Inv-loop μ-loop
-add-i c = search needs
-
-loop-less : tie.Need-loop-less Inv-loop μ-loop
-loop-less c = search needs
-
 loop-again : tie.Need-loop-again Inv-loop μ-loop
 loop-again c =
     let w = c .before .before in
@@ -99,34 +60,11 @@ align-requires c κs =
     let s = start l in
     end-fits (s .args .at) (length (s .args .runs .now)) (l .loop .i) (length (s .args .out .now)) (l .loop .a) (l .loop .out) (roomy l .0) (roomy l .1) (l .loop .inv .0) (l .loop .inv .3) (l .loop .inv .2) (sym (l .loop .inv .1))
 
-same-length-2 : tie.Need-same-length-2 Inv-loop μ-loop
-same-length-2 c = search needs
-
-returns-5 : tie.Need-returns-5 Inv-loop μ-loop
-returns-5 c = search needs
-
 pub probe-pairs-write-spec : {M : Type 1} → statement M
 probe-pairs-write-spec =
     tie.close
     (tie.spec
-    Inv-loop
-    μ-loop
-    returns
-    returns-2
-    sub-if3
-    returns-3
-    loop-holds
-    mul-n
-    shared-slice-read-n
-    mul-c
-    shared-slice-read-c
-    taken-requires
-    same-length
-    returns-4
-    put-run-value-requires
-    add-i
-    loop-less
-    loop-again
-    align-requires
-    same-length-2
-    returns-5)
+    Inv-loop μ-loop (λ c. search needs) (λ c. search needs) (λ c. search needs) (λ c. search needs) loop-holds
+    (λ c. search needs) (λ c. search needs) (λ c. search needs) (λ c. search needs) (λ c κs. search needs)
+    (λ c. search needs) (λ c. search needs) put-run-value-requires (λ c. search needs) (λ c. search needs) loop-again
+    align-requires (λ c. search needs) (λ c. search needs))
