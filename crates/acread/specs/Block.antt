@@ -29,9 +29,9 @@ abbrev pub endsOf : Places → Ends
 endsOf badPlaces = badEnds
 endsOf (places cs q r) = ends q r
 
-abbrev pub endSays : BlockEnd → Ends
-endSays (end.At c n) = ends (c .pos) n
-endSays end.Bad = badEnds
+abbrev pub blockSays : BlockEnd → Ends
+blockSays (end.At c n) = ends (c .pos) n
+blockSays end.Bad = badEnds
 
 -- a cursor behind the block at p: at most 64 codes of 112 bits were read
 pub record Ready (s : List ℕ) (p : ℕ) (c : AcCursor) (n : ℕ) : Type 0 where
@@ -40,5 +40,5 @@ pub record Ready (s : List ℕ) (p : ℕ) (c : AcCursor) (n : ℕ) : Type 0 wher
   pub few : n < 2 ^ 57
 
 pub record BlockEnded (s : List ℕ) (p r : ℕ) (e : BlockEnd) : Type 0 where
-  pub answer : endSays e ≡ endsOf (readPlaces 64 (bitAt s) p r)
+  pub answer : blockSays e ≡ endsOf (readPlaces 64 (bitAt s) p r)
   pub ready : (c : AcCursor) (n : ℕ) → e ≡ end.At c n → Ready s p c n

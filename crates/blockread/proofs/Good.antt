@@ -9,11 +9,11 @@ use lib.IntN.{ℤ, pos}
 use Rattle.bits.specs.Bits.{Stream, bitAt}
 use Rattle.bits.specs.Read.{DcCode, badDc, zeroStep, step, readDc}
 use Rattle.calls.specs.ReadPlane.{Places, badPlaces, places, readPlaces, BlockRead, Blocks, badBlocks, blocks, byPlaces, readBlocks, DcSteps, badSteps, dcSteps, byDcCode, readSteps, PlaneRead, badPlane, planeRead}
-use Rattle.blockread.specs.dc.Steps.{goodSteps}
 use Rattle.blockread.specs.On.{onStreams, readOn, goodPlane, blockFirst, blockOf, NextBlock}
 use Rattle.blockread.specs.ac.Places.{goodPlaces}
 use Rattle.blockread.specs.declared.Stand.{Stand}
 use Rattle.blockread.specs.declared.BlockGot.{BlockGot}
+use Rattle.acread.specs.through.Codes.{goodSteps}
 
 never : false ≡ true → ⊥
 never e = let z : _≡_ {A = ℕ} 0 1 = cc in omega arith

@@ -16,13 +16,13 @@ use Rattle.bitreader.specs.declared.Got.{Got}
 use Rattle.quant.specs.Quantise.{coefficient, scanOf}
 use Rattle.calls.specs.Streams.{dcOf, withDc}
 use Rattle.calls.specs.ReadPlane.{places, readPlaces, BlockRead, Blocks, badBlocks, blocks, blockThen, readBlocks, DcStep, DcSteps, badSteps, dcSteps, stepThen, readSteps, settle, predicted, planeRead, bothStreams, readPlane}
-use Rattle.blockread.specs.dc.Steps.{stepOf, goodSteps}
-use Rattle.blockread.proofs.dc.Steps.{steps-next, some}
 use Rattle.blockread.specs.On.{onStreams, readOn, blockFirst, NextBlock}
 use Rattle.blockread.specs.ac.Places.{Placed}
 use Rattle.blockread.specs.declared.Stand.{Stand}
 use Rattle.blockread.specs.declared.ac.AcGot.{AcGot}
 use Rattle.blockread.proofs.ac.Scan.{scan-dc, scan-with}
+use Rattle.acread.specs.through.Codes.{stepOf, goodSteps}
+use Rattle.acread.proofs.through.Codes.{steps-next, some}
 
 -- ---- one block more
 

@@ -2,14 +2,15 @@
 use mathlib.Core.Path.{_≡_}
 use mathlib.Core.Bool.{Bool, true, false, not}
 use mathlib.Core.List.{List, _∷_}
-use Prim.Native.Nat.{ℕ, suc, _+_, _^_, _≤_, _<_}
-use lib.IntN.{ℤ}
+use Prim.Native.Nat.{ℕ, suc, _+_, _*_, _^_, _≤_, _<_}
+use lib.IntN.{ℤ, pos}
 use lib.ListN.{length}
 use mir.Syntax.{w16}
 use mir.Val.{SFits}
 use Rattle.bits.specs.Bits.{bitAt, bytesFor}
 use Rattle.bitreader.specs.Cursor.{At}
 use Rattle.quant.specs.Quantise.{scanOf}
+use Rattle.calls.specs.Arguments.{PerStream}
 use Rattle.calls.specs.ReadPlane.{BlockRead, Blocks, badBlocks, blocks, readBlocks, DcSteps, badSteps, dcSteps, readSteps, predicted, acDcs, withDcs, PlaneRead, badPlane, planeRead}
 use Rattle.blockread.specs.declared.Stand.{Stand}
 use Rattle.blockread.specs.declared.BlockGot.{BlockGot}
@@ -43,6 +44,14 @@ pub record Ready (dc ac : List ℕ) (s : Stand) : Type 0 where
   pub ac-holds : At ac (s .ac)
   pub few : s .pending < 2 ^ 57
   pub fits : SFits w16 (s .last)
+
+-- a plane's start: both streams at these positions, no zeros to come, and "the prediction starts at 0 in each plane"
+pub record Begun (dc ac : List ℕ) (at : PerStream) (s : Stand) : Type 0 where
+  pub ready : Ready dc ac s
+  pub dc-at : s .dc .pos ≡ 8 * at .dc
+  pub ac-at : s .ac .pos ≡ 8 * at .ac
+  pub none-pending : s .pending ≡ 0
+  pub none-before : s .last ≡ pos 0
 
 -- the first of suc n blocks was read, however many follow
 pub record NextBlock (shift : ℕ) (dc ac : List ℕ) (s : Stand) (g : BlockGot) : Type 0 where

@@ -3,7 +3,8 @@ ghost use mathlib.Core.Path.{_≡_};
 ghost use Prim.Native.Nat.{_<_};
 ghost use Rattle.scalar.specs.Scalar.{addOf};
 ghost use Rattle.calls.specs.ReadPlane.{settle};
-ghost use Rattle.blockread.specs.dc.Steps.{stepOf, byteOf};
+ghost use Rattle.blockread.specs.dc.Steps.{byteOf};
+ghost use Rattle.acread.specs.through.Codes.{stepOf};
 
 // A block's DC: a zero step keeps what stands at place 0, any other, shifted back, replaces it; the prediction is added, wrapping.
 pub fn settled(run: u64, num: u64, shift: u32, here: i16, prior: i16) -> i16

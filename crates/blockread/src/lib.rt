@@ -4,12 +4,13 @@ pub mod dc;
 
 ghost use mathlib.Core.Path.{_≡_};
 ghost use mathlib.Core.Bool.{true};
-ghost use lib.IntN.{pos};
-ghost use Prim.Native.Nat.{_*_, _^_, _<_};
+ghost use Prim.Native.Nat.{_^_, _<_};
 ghost use Rattle.bits.specs.Bits.{bytesFor};
 ghost use Rattle.tables.specs.Zigzag.{zigzag};
-ghost use Rattle.blockread.specs.On.{Ready, NextBlock, readOn, goodPlane};
+ghost use Rattle.calls.specs.Views.{positionsBy};
+ghost use Rattle.blockread.specs.On.{Begun, Ready, NextBlock, readOn, goodPlane};
 use bitreader::AcCursor;
+use calls::Positions;
 
 // Between two blocks: where each stream is read next, the zeros of a run that are still to come, the DC of the block before.
 pub struct Stand {
@@ -26,35 +27,30 @@ pub struct BlockGot {
     pub nat: [i16; 64],
 }
 
-// A plane's start: the streams from the bytes d and a on.
-pub fn begin(dc: &[u8], d: usize, ac: &[u8], a: usize) -> Stand
-    requires { ⌜ (d < 2 ^ 30) × (a < 2 ^ 30) ⌝ }
-    ensures { λ r. ⌜ Ready (now (dc .entry)) (now (ac .entry)) r × (r .dc .pos ≡ 8 * d) × (r .ac .pos ≡ 8 * a) × (r .pending ≡ 0) × (r .last ≡ pos 0) ⌝ }
+// A plane's start: the streams from these positions on.
+pub fn begin(dc: &[u8], ac: &[u8], at: Positions) -> Stand
+    requires { ⌜ (at .dc < 2 ^ 30) × (at .ac < 2 ^ 30) ⌝ }
+    ensures { λ r. ⌜ Begun (now (dc .entry)) (now (ac .entry)) (positionsBy at) r ⌝ }
 {
     Stand {
-        dc: bitreader::cursor(dc, 8 * d),
-        ac: bitreader::cursor(ac, 8 * a),
+        dc: bitreader::cursor(dc, 8 * at.dc),
+        ac: bitreader::cursor(ac, 8 * at.ac),
         pending: 0,
         last: 0,
     }
 }
 
-// The byte behind the DC stream's codes.
-pub fn dc_end(s: Stand) -> usize
-    requires { ⌜ s .dc .pos < 2 ^ 62 ⌝ }
-    ensures { λ r. ⌜ r ≡ bytesFor (s .dc .pos) ⌝ }
+// The bytes behind both streams' codes.
+pub fn ends(s: Stand) -> Positions
+    requires { ⌜ (s .dc .pos < 2 ^ 62) × (s .ac .pos < 2 ^ 62) ⌝ }
+    ensures { λ r. ⌜ (r .dc ≡ bytesFor (s .dc .pos)) × (r .ac ≡ bytesFor (s .ac .pos)) ⌝ }
 {
     let c = s.dc;
-    bitreader::end_byte(c)
-}
-
-// The byte behind the AC stream's codes.
-pub fn ac_end(s: Stand) -> usize
-    requires { ⌜ s .ac .pos < 2 ^ 62 ⌝ }
-    ensures { λ r. ⌜ r ≡ bytesFor (s .ac .pos) ⌝ }
-{
-    let c = s.ac;
-    bitreader::end_byte(c)
+    let d = s.ac;
+    Positions {
+        dc: bitreader::end_byte(c),
+        ac: bitreader::end_byte(d),
+    }
 }
 
 // The next block of a plane whose codes are good: its AC places, then its DC.

@@ -12,7 +12,7 @@ use Rattle.ask.specs.Limits.{shiftMax, widthMax, heightMax}
 use Rattle.bits.specs.Lay.{lay}
 use Rattle.layout.specs.Geometry.{sizeOk, sliceCount, maxDcLen, maxAcLen}
 use Rattle.layout.proofs.Laws.{sized}
-use Rattle.builder.specs.Build.{Build, Built, headerLength, headerBytes, formatByte, headerQuestions, headerOf, started, countByte}
+use Rattle.builder.specs.Build.{Build, Built, headerSize, headerBytes, formatByte, startQuestions, headerOf, started, countByte}
 
 -- ---- room, by difference
 pub by-difference : (len at n : ℕ) → at ≤ len → leb n (len - at) ≡ leb (at + n) len
@@ -22,7 +22,7 @@ by-difference len at n h = go (leb (at + n) len) refl
     go true e = le-leb n (len - at) (omega (arith, leb-true (at + n) len e))
     go false e = lt-leb n (len - at) (omega (arith, leb-false (at + n) len e))
 
-pub five : (shift : ℕ) → (shift ≡ 0 → ⊥) → headerLength shift ≡ 5
+pub five : (shift : ℕ) → (shift ≡ 0 → ⊥) → headerSize shift ≡ 5
 five zero h = absurd (h refl)
 five (suc s) h = refl
 
@@ -37,21 +37,21 @@ unfolding headerBytes
 short-header interlaced quality shift count e = rw e
 
 -- ---- what the questions leave
-pub all-yes : (w h shift len at : ℕ) → shift ≤ shiftMax → leb (at + headerLength shift) len ≡ true → sizeOk w h ≡ true → firstNo (headerQuestions w h shift len at) ≡ 0
-unfolding headerQuestions firstNo
+pub all-yes : (w h shift len at : ℕ) → shift ≤ shiftMax → leb (at + headerSize shift) len ≡ true → sizeOk w h ≡ true → firstNo (startQuestions w h shift len at) ≡ 0
+unfolding startQuestions firstNo
 all-yes w h shift len at a b d = rw (le-leb shift shiftMax a, b, d)
 
 pub record Starts (w h shift len at : ℕ) : Type 0 where
   pub wide : w ≤ widthMax
   pub high : h ≤ heightMax
   pub small : shift ≤ shiftMax
-  pub room : at + headerLength shift ≤ len
+  pub room : at + headerSize shift ≤ len
 
-pub starts : (w h shift len at : ℕ) → firstNo (headerQuestions w h shift len at) ≡ 0 → Starts w h shift len at
-unfolding headerQuestions firstNo
-starts w h shift len at e = go (leb shift shiftMax) refl (leb (at + headerLength shift) len) refl (sizeOk w h) refl
+pub starts : (w h shift len at : ℕ) → firstNo (startQuestions w h shift len at) ≡ 0 → Starts w h shift len at
+unfolding startQuestions firstNo
+starts w h shift len at e = go (leb shift shiftMax) refl (leb (at + headerSize shift) len) refl (sizeOk w h) refl
   where
-    go : (a : Bool) → leb shift shiftMax ≡ a → (b : Bool) → leb (at + headerLength shift) len ≡ b → (d : Bool) → sizeOk w h ≡ d → Starts w h shift len at
+    go : (a : Bool) → leb shift shiftMax ≡ a → (b : Bool) → leb (at + headerSize shift) len ≡ b → (d : Bool) → sizeOk w h ≡ d → Starts w h shift len at
     go false x b y d z = absurd (let k = rw x at e in omega arith)
     go true x false y d z = absurd (let k = rw (x, y) at e in omega arith)
     go true x true y false z = absurd (let k = rw (x, y, z) at e in omega arith)
@@ -60,26 +60,26 @@ starts w h shift len at e = go (leb shift shiftMax) refl (leb (at + headerLength
           wide = sized w h z .wide;
           high = sized w h z .high;
           small = leb-true shift shiftMax x;
-          room = leb-true (at + headerLength shift) len y;
+          room = leb-true (at + headerSize shift) len y;
         }
 
-pub header-room3 : (shift at len : ℕ) → shift ≡ 0 → at + headerLength shift ≤ len → at + 3 ≤ len
+pub header-room3 : (shift at len : ℕ) → shift ≡ 0 → at + headerSize shift ≤ len → at + 3 ≤ len
 header-room3 shift at len e h = rw e at h
 
 -- ---- the answers
 module _ (w h : ℕ) (interlaced : Bool) (quality shift : ℕ) (out : List ℕ) (at : ℕ) where
-  pub header-no : {n : ℕ} → n ≡ firstNo (headerQuestions w h shift (length out) at) → 0 < n → headerOf w h interlaced quality shift out at ≡ refused n
+  pub header-no : {n : ℕ} → n ≡ firstNo (startQuestions w h shift (length out) at) → 0 < n → headerOf w h interlaced quality shift out at ≡ refused n
   unfolding headerOf asked
   header-no {n = zero} e k = absurd (omega arith)
   header-no {n = suc n} e k = rw (← e)
 
-  pub header-yes : firstNo (headerQuestions w h shift (length out) at) ≡ 0
+  pub header-yes : firstNo (startQuestions w h shift (length out) at) ≡ 0
       → headerOf w h interlaced quality shift out at
-      ≡ accepted (record { state = started w h (at + headerLength shift); bytes = lay out at (headerBytes interlaced quality shift (countByte h)) })
+      ≡ accepted (record { state = started w h (at + headerSize shift); bytes = lay out at (headerBytes interlaced quality shift (countByte h)) })
   unfolding headerOf asked
   header-yes e = rw e
 
-pub starts-at : (w h len at : ℕ) {shift named n : ℕ} → shift ≡ named → n ≡ firstNo (headerQuestions w h shift len at) → n ≤ 0 → Starts w h shift len at
+pub starts-at : (w h len at : ℕ) {shift named n : ℕ} → shift ≡ named → n ≡ firstNo (startQuestions w h shift len at) → n ≤ 0 → Starts w h shift len at
 starts-at w h len at {shift} d e k = starts w h shift len at (sym e ∙ omega arith)
 
 -- a state and the buffer that a call leaves
@@ -87,7 +87,7 @@ abbrev pub built : Build → List ℕ → Answer Built
 built b m = accepted (record { state = b; bytes = m })
 
 pub frame-built : (w h : ℕ) (interlaced : Bool) (quality : ℕ) (out : List ℕ) (at : ℕ) {shift named slices dc ac n : ℕ} {m : List ℕ}
-    → shift ≡ named → slices ≡ sliceCount h → dc ≡ maxDcLen w → ac ≡ maxAcLen w → n ≡ headerLength shift → m ≡ lay out at (headerBytes interlaced quality shift (slices % 256))
-    → built (started w h (at + headerLength named)) (lay out at (headerBytes interlaced quality named (countByte h)))
+    → shift ≡ named → slices ≡ sliceCount h → dc ≡ maxDcLen w → ac ≡ maxAcLen w → n ≡ headerSize shift → m ≡ lay out at (headerBytes interlaced quality shift (slices % 256))
+    → built (started w h (at + headerSize named)) (lay out at (headerBytes interlaced quality named (countByte h)))
     ≡ built (record { slices = slices; maxDcLen = dc; maxAcLen = ac; acTurn = false; next = 0; at = at + n }) m
 frame-built w h interlaced quality out at p q r t u v = rw (v, u, t, r, q, p) refl

@@ -37,9 +37,9 @@ pub record Build : Type 0 where
   pub next : ℕ
   pub at : ℕ
 
--- question 6: room behind `at` for n bytes more, in a buffer of so many
-abbrev pub roomQuestion : ℕ → ℕ → ℕ → Question
-roomQuestion len at n = ask (leb (at + n) len) noRoom
+-- question 6: room from `at` on for n bytes more, in a buffer of so many
+abbrev pub roomToWrite : ℕ → ℕ → ℕ → Question
+roomToWrite len at n = ask (leb (at + n) len) noRoom
 
 -- the state and the buffer afterwards
 pub record Built : Type 0 where
@@ -50,19 +50,19 @@ abbrev pub started : ℕ → ℕ → ℕ → Build
 started w h at = record { slices = sliceCount h; maxDcLen = maxDcLen w; maxAcLen = maxAcLen w; acTurn = false; next = 0; at = at }
 
 -- 3 bytes, or 5 with the DC shift
-abbrev pub headerLength : ℕ → ℕ
-headerLength zero = 3
-headerLength (suc s) = 5
+abbrev pub headerSize : ℕ → ℕ
+headerSize zero = 3
+headerSize (suc s) = 5
 
 -- the header: questions 2, 6, 9
-unfoldable pub headerQuestions : ℕ → ℕ → ℕ → ℕ → ℕ → List Question
-headerQuestions w h shift len at = ask (shiftOk shift) noShift ∷ roomQuestion len at (headerLength shift) ∷ sizeQuestion w h ∷ []
+unfoldable pub startQuestions : ℕ → ℕ → ℕ → ℕ → ℕ → List Question
+startQuestions w h shift len at = ask (shiftOk shift) noShift ∷ roomToWrite len at (headerSize shift) ∷ sizeQuestion w h ∷ []
 
 unfoldable pub headerOf : ℕ → ℕ → Bool → ℕ → ℕ → List ℕ → ℕ → Answer Built
 headerOf w h interlaced quality shift out at =
-    asked (headerQuestions w h shift (length out) at)
+    asked (startQuestions w h shift (length out) at)
     (accepted
     (record {
-      state = started w h (at + headerLength shift);
+      state = started w h (at + headerSize shift);
       bytes = lay out at (headerBytes interlaced quality shift (countByte h));
     }))

@@ -14,7 +14,7 @@ ghost use lib.ListN.{length};
 ghost use Rattle.ask.specs.Ask.{firstNo};
 ghost use Rattle.ask.specs.Limits.{shiftMax};
 ghost use Rattle.bits.specs.Lay.{lay};
-ghost use Rattle.builder.specs.Build.{formatByte, headerBytes, headerLength, headerQuestions, headerOf};
+ghost use Rattle.builder.specs.Build.{formatByte, headerBytes, headerSize, startQuestions, headerOf};
 ghost use Rattle.builder.specs.Views.{shiftSays, HeaderCall};
 
 // The DC shift that a frame's header names.
@@ -50,7 +50,7 @@ fn shift_of(s: Shift) -> u32
     }
 }
 
-// Whether n bytes fit behind `at` in a buffer of len bytes. Compared by subtraction: no sum may overflow.
+// Whether n bytes fit from `at` on in a buffer of len bytes. Compared by subtraction: no sum may overflow.
 fn fits(len: usize, at: usize, n: usize) -> bool
     ensures { λ r. ⌜ r ≡ leb (at + n) len ⌝ }
 {
@@ -60,18 +60,18 @@ fn fits(len: usize, at: usize, n: usize) -> bool
     n <= len - at
 }
 
-fn header_length(shift: u32) -> usize
-    ensures { λ r. ⌜ (r ≡ headerLength shift) × (r ≤ 5) ⌝ }
+fn header_size(shift: u32) -> usize
+    ensures { λ r. ⌜ (r ≡ headerSize shift) × (r ≤ 5) ⌝ }
 {
     if shift == 0 { 3 } else { 5 }
 }
 
 // The first "no" among the questions about the header, 0 where there is none.
-fn header_number(width: usize, height: usize, shift: u32, len: usize, at: usize) -> u32
-    ensures { λ r. ⌜ r ≡ firstNo (headerQuestions width height shift len at) ⌝ }
+fn start_number(width: usize, height: usize, shift: u32, len: usize, at: usize) -> u32
+    ensures { λ r. ⌜ r ≡ firstNo (startQuestions width height shift len at) ⌝ }
 {
     let shifts = ask::shift_ok(shift);
-    let n = header_length(shift);
+    let n = header_size(shift);
     let room = fits(len, at, n);
     let size = layout::size_ok(width, height);
     let from_size = ask::or_else(size, NO_SIZE, 0);
@@ -87,7 +87,7 @@ fn format_byte(interlaced: bool) -> u8
 
 // Stores the header at `at`.
 fn put_header(out: &mut [u8], at: usize, interlaced: bool, quality: u8, shift: u32, count: u8)
-    requires { ⌜ (at + headerLength shift ≤ length (now out)) × (shift ≤ shiftMax) ⌝ }
+    requires { ⌜ (at + headerSize shift ≤ length (now out)) × (shift ≤ shiftMax) ⌝ }
     ensures { λ _. ⌜ now (out .exit) ≡ lay (now (out .entry)) at (headerBytes interlaced quality shift count) ⌝ }
 {
     let f = format_byte(interlaced);
@@ -113,11 +113,11 @@ pub fn start_frame(
         (headerOf width height interlaced quality (shiftSays shift) (now (out .entry)) at) ⌝ }
 {
     let s = shift_of(shift);
-    let x = header_number(width, height, s, out.len(), at);
+    let x = start_number(width, height, s, out.len(), at);
     if 0 < x {
         return HeaderAnswer::Refused(x);
     }
-    let end = at + header_length(s);
+    let end = at + header_size(s);
     let slices = layout::slice_count(height);
     let max_dc_len = layout::max_dc_len(width);
     let max_ac_len = layout::max_ac_len(width);

@@ -23,7 +23,7 @@ pub enum StreamAnswer {
     Refused(u32, Builder),
 }
 
-// Whether a length word and n bytes fit behind `at` in a buffer of len bytes.
+// Whether a length word and n bytes fit from `at` on in a buffer of len bytes.
 fn fits_stream(len: usize, at: usize, n: usize) -> bool
     ensures { λ r. ⌜ r ≡ leb (at + (4 + n)) len ⌝ }
 {

@@ -6,6 +6,7 @@ ghost use mathlib.Core.Bool.{true, false};
 ghost use Prim.Native.Nat.{_+_, _*_, _≤_};
 ghost use lib.IntN.{pos};
 ghost use lib.ListN.{length};
+ghost use Rattle.ask.specs.Limits.{strideMax};
 ghost use Rattle.paint.specs.Paint.{storeBlock};
 ghost use Rattle.paint.specs.Samples.{flatSample};
 ghost use Rattle.quant.specs.Quantise.{dequantShift, dequantiseWith};
@@ -30,7 +31,7 @@ pub fn idct_core(nat: [i16; 64], d: &[u16; 64], ten: bool) -> [i16; 64]
 
 // The 8-bit samples of a block's numbers.
 pub fn store8(rows: &mut [u8], stride: usize, v: [i16; 64], level: i16)
-    requires { ⌜ (8 ≤ stride) × (stride ≤ 7680) × (7 * stride + 8 ≤ length (now rows)) ⌝ }
+    requires { ⌜ (8 ≤ stride) × (stride ≤ strideMax) × (7 * stride + 8 ≤ length (now rows)) ⌝ }
     ensures { λ _. ⌜ now (rows .exit) ≡ storeBlock stride (numberSample false level v) (now (rows .entry)) ⌝ }
 {
     let p = idct::bytes(v, level);
@@ -39,7 +40,7 @@ pub fn store8(rows: &mut [u8], stride: usize, v: [i16; 64], level: i16)
 
 // The 10-bit samples of a block's numbers.
 pub fn store16(rows: &mut [u16], stride: usize, v: [i16; 64], level: i16)
-    requires { ⌜ (8 ≤ stride) × (stride ≤ 7680) × (7 * stride + 8 ≤ length (now rows)) ⌝ }
+    requires { ⌜ (8 ≤ stride) × (stride ≤ strideMax) × (7 * stride + 8 ≤ length (now rows)) ⌝ }
     ensures { λ _. ⌜ now (rows .exit) ≡ storeBlock stride (numberSample true level v) (now (rows .entry)) ⌝ }
 {
     let p = idct::words(v, level);
@@ -48,7 +49,7 @@ pub fn store16(rows: &mut [u16], stride: usize, v: [i16; 64], level: i16)
 
 // Fills an 8-bit block flat with its DC.
 pub fn broadcast_dc8(rows: &mut [u8], stride: usize, dc: i16, level: i16)
-    requires { ⌜ (8 ≤ stride) × (stride ≤ 7680) × (7 * stride + 8 ≤ length (now rows)) ⌝ }
+    requires { ⌜ (8 ≤ stride) × (stride ≤ strideMax) × (7 * stride + 8 ≤ length (now rows)) ⌝ }
     ensures { λ _. ⌜ now (rows .exit) ≡ storeBlock stride (λ i. flatSample level dc) (now (rows .entry)) ⌝ }
 {
     paint::broadcast_dc8(rows, stride, dc, level);

@@ -10,8 +10,8 @@ use Rattle.scalar.specs.Tab.{tab}
 use Rattle.fdct.specs.column.Steps.{forwardColumnOf}
 use Rattle.fdct.specs.declared.column.Lanes.{Lanes}
 use Rattle.frow.specs.Rows.{at, forwardRowsOf}
-pub use Rattle.fdct.specs.levels.Level.{levelAt}
-unfoldable pub use Rattle.fdct.specs.levels.Level.{levelShiftOf}
+pub use Rattle.fdct.specs.level_shift.Level.{levelAt}
+unfoldable pub use Rattle.fdct.specs.level_shift.Level.{levelShiftOf}
 
 -- "A u8 sample is its own lane; a u16 sample's lane is the sample shifted right by 6": the block at the corner of the rows
 abbrev pub lane8At : List ℕ → ℕ → ℕ → ℤ

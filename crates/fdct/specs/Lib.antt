@@ -1,3 +1,3 @@
 pub mod Forward
 pub mod column
-pub mod levels
+pub mod level_shift

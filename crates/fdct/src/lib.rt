@@ -1,12 +1,12 @@
 // The forward transform of one 8 by 8 block (dct.rs, fdct_quant_zig, up to the quantiser): lanes row by row to coefficients in natural order.
 pub mod column;
-pub mod levels;
+pub mod level_shift;
 pub mod load;
 
 ghost use mathlib.Core.Path.{_≡_};
 ghost use Prim.Native.Nat.{_<_};
 ghost use Rattle.fdct.specs.Forward.{forwardColumnsOf, transformOf};
-use crate::levels::level;
+use crate::level_shift::level;
 
 // The column pass, one column a turn.
 pub fn columns(b: [i16; 64], shift: u32) -> [i16; 64]

@@ -9,7 +9,7 @@ use lib.ListN.{length, getD, take, drop, length-append}
 use lib.Seq.{getD-append-add, drop-append-add, take-append-seam}
 use Rattle.ask.specs.Ask.{Answer, refused, accepted, andThen}
 use Rattle.parser.specs.streams.Streams.{byteAt, lengthAt, oneStream, streams}
-use Rattle.parser.specs.Frame.{View, partAt, nthStream}
+use Rattle.parser.specs.Frame.{View, streamPart, nthStream}
 use Rattle.parser.proofs.streams.Laws.{one-whole, turn}
 use Rattle.parser.proofs.Laws.{nth-yes}
 use Rattle.builder.specs.streams.Put.{lengthWord, streamBytes, allStreams}
@@ -54,7 +54,7 @@ module _ (limit : ℕ) (small : limit < 4294967296) (pre s post : List ℕ) (h :
       ∙ ap accepted (omega (arith, its-length))
 
   -- "the stream is handed back as that part of the caller's frame"
-  pub its-bytes : take (partAt there (length pre) .size) (drop (partAt there (length pre) .offset) there) ≡ s
+  pub its-bytes : take (streamPart there (length pre) .size) (drop (streamPart there (length pre) .offset) there) ≡ s
   unfolding streamBytes
   its-bytes =
       ap (λ (n : ℕ). take n (drop (length pre + 4) there)) its-length
@@ -79,7 +79,7 @@ streams-read limit small pre (s ∷ ss) post w =
 -- ---- the stream of one slice
 pub nth-read : (limit : ℕ) → limit < 4294967296 → (pre : List ℕ) (before : List (List ℕ)) (s post : List ℕ) → Within limit before → length s ≤ limit
     → nthStream (length before) limit (pre ++ (allStreams before ++ (streamBytes s ++ post))) (length pre)
-    ≡ accepted (partAt (pre ++ (allStreams before ++ (streamBytes s ++ post))) (length (pre ++ allStreams before)))
+    ≡ accepted (streamPart (pre ++ (allStreams before ++ (streamBytes s ++ post))) (length (pre ++ allStreams before)))
 nth-read limit small pre before s post w h =
     let f = pre ++ (allStreams before ++ (streamBytes s ++ post)) in
     let g : f ≡ (pre ++ allStreams before) ++ (streamBytes s ++ post) = sym (append-assoc pre (allStreams before) (streamBytes s ++ post)) in
@@ -90,8 +90,8 @@ nth-read limit small pre before s post w h =
 -- and its bytes are the stream
 pub nth-bytes : (limit : ℕ) → limit < 4294967296 → (pre : List ℕ) (before : List (List ℕ)) (s post : List ℕ) → length s ≤ limit
     → let f = pre ++ (allStreams before ++ (streamBytes s ++ post)) in
-    take (partAt f (length (pre ++ allStreams before)) .size) (drop (partAt f (length (pre ++ allStreams before)) .offset) f) ≡ s
+    take (streamPart f (length (pre ++ allStreams before)) .size) (drop (streamPart f (length (pre ++ allStreams before)) .offset) f) ≡ s
 nth-bytes limit small pre before s post h =
     let g : pre ++ (allStreams before ++ (streamBytes s ++ post)) ≡ (pre ++ allStreams before) ++ (streamBytes s ++ post) = sym (append-assoc pre (allStreams before) (streamBytes s ++ post)) in
-    ap (λ (f : List ℕ). take (partAt f (length (pre ++ allStreams before)) .size) (drop (partAt f (length (pre ++ allStreams before)) .offset) f)) g
+    ap (λ (f : List ℕ). take (streamPart f (length (pre ++ allStreams before)) .size) (drop (streamPart f (length (pre ++ allStreams before)) .offset) f)) g
     ∙ its-bytes limit small (pre ++ allStreams before) s post h

@@ -6,10 +6,11 @@ use Prim.Native.Nat.{ℕ, zero, suc, _+_, _-_, _≤_, _<_}
 use native.Mathlib.Omega.{arith}
 use lib.ListN.{length, take, drop, length-append}
 use lib.Seq.{length-take-le, take-append-seam, drop-at}
+use Rattle.ask.specs.Limits.{shiftMax}
 use Rattle.ask.specs.Ask.{Answer, refused, accepted, andThen}
 use Rattle.bits.specs.Lay.{lay}
 use Rattle.parser.specs.Frame.{viewOf}
-use Rattle.builder.specs.Build.{Build, Built, headerLength, headerBytes, countByte, started}
+use Rattle.builder.specs.Build.{Build, Built, headerSize, headerBytes, countByte, started}
 use Rattle.builder.specs.streams.Put.{allStreams, writeOf}
 use Rattle.frames.specs.Whole.{buildOf, Complete, ofKind, streamAt, bytesOf, frameIn}
 use Rattle.frames.proofs.Put.{header-length, afterAll, all-at, builds, builds-dc}
@@ -32,14 +33,14 @@ after (accepted b) at read {f} e = let g : frameIn at b ≡ f = cc in ap read g
 
 module _ (w h : ℕ) (interlaced : Bool) (quality shift : ℕ) where
   -- the part of the buffer that the builder's calls put is `write`'s frame
-  pub frame-built : (dc ac : List (List ℕ)) (out : List ℕ) (at : ℕ) → shift ≤ 15 → Complete w h dc ac [] → at + length (writeOf h interlaced quality shift dc ac) ≤ length out
+  pub frame-built : (dc ac : List (List ℕ)) (out : List ℕ) (at : ℕ) → shift ≤ shiftMax → Complete w h dc ac [] → at + length (writeOf h interlaced quality shift dc ac) ≤ length out
       → andThen (buildOf w h interlaced quality shift dc ac out at) (λ b. accepted (frameIn at b)) ≡ accepted (writeOf h interlaced quality shift dc ac)
   unfolding writeOf
   frame-built [] ac out at small p r = absurd (a-slice w h (p .size) (p .dcAll))
   frame-built (s ∷ ss) [] out at small p r =
       let head = headerBytes interlaced quality shift (countByte h) in
       let x = allStreams (s ∷ ss) in
-      let start = started w h (at + headerLength shift) in
+      let start = started w h (at + headerSize shift) in
       let m : afterAll start (s ∷ ss) .at ≡ at + length (head ++ (x ++ allStreams [])) =
       all-at start (s ∷ ss) ∙ omega (arith, header-length interlaced quality shift (countByte h), length-append head (x ++ allStreams []), length-append x (allStreams []), ap length none) in
       rw (builds-dc w h interlaced quality shift (p .size) small s ss (p .dcAll) (p .dcFit) out at r)
@@ -48,7 +49,7 @@ module _ (w h : ℕ) (interlaced : Bool) (quality shift : ℕ) where
       let head = headerBytes interlaced quality shift (countByte h) in
       let x = allStreams (s ∷ ss) in
       let y = allStreams (a ∷ rest) in
-      let start = started w h (at + headerLength shift) in
+      let start = started w h (at + headerSize shift) in
       let mid = afterAll start (s ∷ ss) in
       let m : afterAll mid (a ∷ rest) .at ≡ at + length (head ++ (x ++ y)) =
       all-at mid (a ∷ rest) ∙ omega (arith, all-at start (s ∷ ss), header-length interlaced quality shift (countByte h), length-append head (x ++ y), length-append x y) in
@@ -56,7 +57,7 @@ module _ (w h : ℕ) (interlaced : Bool) (quality shift : ℕ) where
       (ap accepted (frame-is (afterAll mid (a ∷ rest)) out at (head ++ (x ++ y)) (omega arith) m))
 
   -- header and streams put, then the view of a slice read: the stream that was put, or 14
-  pub built-back : (dc ac : List (List ℕ)) (out : List ℕ) (at : ℕ) → shift ≤ 15 → Complete w h dc ac [] → at + length (writeOf h interlaced quality shift dc ac) ≤ length out → (kind : Bool) (slice : ℕ)
+  pub built-back : (dc ac : List (List ℕ)) (out : List ℕ) (at : ℕ) → shift ≤ shiftMax → Complete w h dc ac [] → at + length (writeOf h interlaced quality shift dc ac) ≤ length out → (kind : Bool) (slice : ℕ)
       → andThen (buildOf w h interlaced quality shift dc ac out at) (λ b. let f = frameIn at b in bytesOf f (viewOf w h f kind slice)) ≡ streamAt (ofKind kind dc ac) slice
   built-back dc ac out at small p r kind slice =
       after (buildOf w h interlaced quality shift dc ac out at) at (λ (f : List ℕ). bytesOf f (viewOf w h f kind slice)) (frame-built dc ac out at small p r)

@@ -9,12 +9,13 @@ use native.Mathlib.Omega.{arith}
 use lib.Dec.{leb, ltb, eqb}
 use lib.ListN.{length, length-append}
 use borrow.Author.Tests.{lt-ltb, le-leb, eq-eqb, ne-eqb}
+use Rattle.ask.specs.Limits.{shiftMax}
 use Rattle.ask.specs.Ask.{Answer, refused, accepted, andThen, firstNo}
 use Rattle.bits.specs.Lay.{lay}
 use Rattle.bits.proofs.LayLaw.{lay-none, lay-lay, lay-length}
 use Rattle.layout.specs.Geometry.{sizeOk, sliceCount, maxDcLen, maxAcLen}
-use Rattle.builder.specs.Build.{Build, Built, headerLength, headerBytes, countByte, headerQuestions, headerOf, started}
-use Rattle.builder.specs.streams.Put.{lengthWord, streamBytes, streamQuestions, streamOf, afterStream, inTurn, limitOf, same, lastOf, allStreams, writeOf}
+use Rattle.builder.specs.Build.{Build, Built, headerSize, headerBytes, countByte, startQuestions, headerOf, started}
+use Rattle.builder.specs.streams.Put.{lengthWord, streamBytes, streamQuestions, streamOf, afterStream, inTurn, limitOf, same, isLastSlice, allStreams, writeOf}
 use Rattle.builder.proofs.Laws.{all-yes, header-yes}
 use Rattle.builder.proofs.streams.Laws.{stream-yes, stream-done}
 use Rattle.frames.specs.Whole.{putAll, buildOf, Within}
@@ -40,16 +41,16 @@ abbrev pub afterAll : Build → List (List ℕ) → Build
 afterAll b [] = b
 afterAll b (s ∷ ss) = afterAll (afterStream b (b .at + (4 + length s))) ss
 
-not-last : (b : Build) (k m : ℕ) → b .next ≡ k → k + suc (suc m) ≡ b .slices → lastOf b ≡ false
+not-last : (b : Build) (k m : ℕ) → b .next ≡ k → k + suc (suc m) ≡ b .slices → isLastSlice b ≡ false
 not-last b k m n e = ne-eqb (b .next + 1) (b .slices) (λ f. omega arith)
 
-is-last : (b : Build) (k : ℕ) → b .next ≡ k → k + 1 ≡ b .slices → lastOf b ≡ true
+is-last : (b : Build) (k : ℕ) → b .next ≡ k → k + 1 ≡ b .slices → isLastSlice b ≡ true
 is-last b k n e = eq-eqb (b .next + 1) (b .slices) (omega arith)
 
-turn-on : (b : Build) (at : ℕ) → lastOf b ≡ false → afterStream b at .acTurn ≡ b .acTurn
+turn-on : (b : Build) (at : ℕ) → isLastSlice b ≡ false → afterStream b at .acTurn ≡ b .acTurn
 turn-on b at e = rw e
 
-next-on : (b : Build) (at : ℕ) → lastOf b ≡ false → afterStream b at .next ≡ b .next + 1
+next-on : (b : Build) (at : ℕ) → isLastSlice b ≡ false → afterStream b at .next ≡ b .next + 1
 next-on b at e = go (b .acTurn) refl
   where
     go : (a : Bool) → b .acTurn ≡ a → afterStream b at .next ≡ b .next + 1
@@ -70,7 +71,7 @@ put-all b ac k s [] out t n e w r =
     (ap (λ (x : List ℕ). accepted (record { state = afterAll b (s ∷ []); bytes = lay out (b .at) x })) (sym (append-nil (streamBytes s))))
 put-all b ac k s (u ∷ us) out t n e w r =
     let j : length (streamBytes s ++ allStreams (u ∷ us)) ≡ length (streamBytes s) + length (allStreams (u ∷ us)) = length-append (streamBytes s) (allStreams (u ∷ us)) in
-    let g : lastOf b ≡ false = not-last b k (length us) n e in
+    let g : isLastSlice b ≡ false = not-last b k (length us) n e in
     let b' = afterStream b (b .at + (4 + length s)) in
     let out' = lay out (b .at) (streamBytes s) in
     let i : length out' ≡ length out = lay-length out (b .at) (streamBytes s) (omega (arith, stream-length s)) in
@@ -101,11 +102,11 @@ pub record AcNext (b : Build) : Type 0 where
 
 ac-next : (b : Build) (k : ℕ) (s : List ℕ) (ss : List (List ℕ)) → b .acTurn ≡ false → b .next ≡ k → k + length (s ∷ ss) ≡ b .slices → AcNext (afterAll b (s ∷ ss))
 ac-next b k s [] t n e =
-    let g : lastOf b ≡ true = is-last b k n (omega arith) in
+    let g : isLastSlice b ≡ true = is-last b k n (omega arith) in
     record { turn = rw g; next = rw (t, g) }
 ac-next b k s (u ∷ us) t n e =
     let at = b .at + (4 + length s) in
-    let g : lastOf b ≡ false = not-last b k (length us) n e in
+    let g : isLastSlice b ≡ false = not-last b k (length us) n e in
     ac-next (afterStream b at) (suc k) u us (turn-on b at g ∙ t) (next-on b at g ∙ omega arith) (omega arith)
 
 no-more : (l : List ℕ) → l ++ allStreams [] ≡ l
@@ -113,22 +114,22 @@ unfolding allStreams
 no-more l = append-nil l
 
 -- ---- the whole frame
-pub header-length : (interlaced : Bool) (quality shift count : ℕ) → length (headerBytes interlaced quality shift count) ≡ headerLength shift
+pub header-length : (interlaced : Bool) (quality shift count : ℕ) → length (headerBytes interlaced quality shift count) ≡ headerSize shift
 unfolding headerBytes
 header-length interlaced quality zero count = refl
 header-length interlaced quality (suc s) count = refl
 
-module _ (w h : ℕ) (interlaced : Bool) (quality shift : ℕ) (size : sizeOk w h ≡ true) (small : shift ≤ 15) (s : List ℕ) (ss : List (List ℕ)) (count : length (s ∷ ss) ≡ sliceCount h) (dcs : Within (maxDcLen w) (s ∷ ss)) (out : List ℕ) (at : ℕ) where
+module _ (w h : ℕ) (interlaced : Bool) (quality shift : ℕ) (size : sizeOk w h ≡ true) (small : shift ≤ shiftMax) (s : List ℕ) (ss : List (List ℕ)) (count : length (s ∷ ss) ≡ sliceCount h) (dcs : Within (maxDcLen w) (s ∷ ss)) (out : List ℕ) (at : ℕ) where
   abbrev head : List ℕ
   head = headerBytes interlaced quality shift (countByte h)
 
   abbrev start : Build
-  start = started w h (at + headerLength shift)
+  start = started w h (at + headerSize shift)
 
   head-put : at + length head ≤ length out → headerOf w h interlaced quality shift out at ≡ accepted (record { state = start; bytes = lay out at head })
   head-put r =
       header-yes w h interlaced quality shift out at
-      (all-yes w h shift (length out) at small (le-leb (at + headerLength shift) (length out) (omega (arith, header-length interlaced quality shift (countByte h)))) size)
+      (all-yes w h shift (length out) at small (le-leb (at + headerSize shift) (length out) (omega (arith, header-length interlaced quality shift (countByte h)))) size)
 
   dc-put : at + length (head ++ allStreams (s ∷ ss)) ≤ length out
       → putAll start false 0 (s ∷ ss) (lay out at head) ≡ accepted (record { state = afterAll start (s ∷ ss); bytes = lay out at (head ++ allStreams (s ∷ ss)) })

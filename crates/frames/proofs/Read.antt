@@ -8,9 +8,10 @@ use lib.Dec.{leb, ltb, eqb}
 use lib.ListN.{length, length-append}
 use borrow.Author.Tests.{eq-eqb}
 use Rattle.ask.specs.Ask.{Answer, refused, accepted, firstNo}
+use Rattle.ask.specs.Limits.{shiftMax}
 use Rattle.layout.specs.Geometry.{sizeOk, sliceCount, maxDcLen, maxAcLen, interlaceCapable}
 use Rattle.parser.specs.streams.Streams.{byteAt, streams}
-use Rattle.parser.specs.head.Header.{formatAt, shiftIn, countOk, headerLength, headerQuestions, isInterlaced, FrameRead, frameRead}
+use Rattle.parser.specs.head.Header.{formatAt, shiftIn, sliceCountOk, headerLength, headerQuestions, isInterlaced, FrameRead, frameRead}
 use Rattle.parser.specs.Frame.{dcStreams, parseOf}
 use Rattle.layout.proofs.Laws.{sized, Sized}
 use Rattle.parser.proofs.head.Laws.{all-yes}
@@ -27,7 +28,7 @@ readBack h interlaced quality shift there =
     record { interlaced = interlaced && interlaceCapable h; quality = quality; dcShift = shift; headerLen = length (headerBytes interlaced quality shift (countByte h)); acThere = there }
 
 -- the header of a frame, whatever follows it
-module _ (w h : ℕ) (interlaced : Bool) (quality shift : ℕ) (size : sizeOk w h ≡ true) (small : shift ≤ 15) (rest : List ℕ) (more : 2 ≤ length rest) where
+module _ (w h : ℕ) (interlaced : Bool) (quality shift : ℕ) (size : sizeOk w h ≡ true) (small : shift ≤ shiftMax) (rest : List ℕ) (more : 2 ≤ length rest) where
   abbrev f : List ℕ
   f = headerBytes interlaced quality shift (countByte h) ++ rest
 
@@ -35,7 +36,7 @@ module _ (w h : ℕ) (interlaced : Bool) (quality shift : ℕ) (size : sizeOk w 
   unfolding headerBytes
   head-yes = go interlaced shift small
     where
-      go : (i : Bool) (s : ℕ) → s ≤ 15 → firstNo (headerQuestions w h (headerBytes i quality s (countByte h) ++ rest)) ≡ 0
+      go : (i : Bool) (s : ℕ) → s ≤ shiftMax → firstNo (headerQuestions w h (headerBytes i quality s (countByte h) ++ rest)) ≡ 0
       go false zero k = all-yes w h (headerBytes false quality zero (countByte h) ++ rest) size (omega arith) (omega arith) (omega arith) (omega arith) (eq-eqb (countByte h) (countByte h) refl)
       go true zero k = all-yes w h (headerBytes true quality zero (countByte h) ++ rest) size (omega arith) (omega arith) (omega arith) (omega arith) (eq-eqb (countByte h) (countByte h) refl)
       go false (suc s) k = all-yes w h (headerBytes false quality (suc s) (countByte h) ++ rest) size (omega arith) (omega arith) (omega arith) k (eq-eqb (countByte h) (countByte h) refl)
@@ -59,7 +60,7 @@ unfolding allStreams
 some-bytes a rest = omega (arith, length-append (streamBytes a) (allStreams rest), stream-length a)
 
 -- ---- the whole frame: all slices' DC streams, then all slices' AC streams or none
-module _ (w h : ℕ) (interlaced : Bool) (quality shift : ℕ) (size : sizeOk w h ≡ true) (small : shift ≤ 15) (s : List ℕ) (ss : List (List ℕ)) (count : length (s ∷ ss) ≡ sliceCount h) (dcs : Within (maxDcLen w) (s ∷ ss)) where
+module _ (w h : ℕ) (interlaced : Bool) (quality shift : ℕ) (size : sizeOk w h ≡ true) (small : shift ≤ shiftMax) (s : List ℕ) (ss : List (List ℕ)) (count : length (s ∷ ss) ≡ sliceCount h) (dcs : Within (maxDcLen w) (s ∷ ss)) where
   abbrev head : List ℕ
   head = headerBytes interlaced quality shift (countByte h)
 

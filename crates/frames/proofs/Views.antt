@@ -8,7 +8,9 @@ use lib.Dec.{leb, ltb, eqb}
 use lib.ListN.{length, length-append}
 use borrow.Author.Tests.{ltb-true, ltb-false}
 use Rattle.ask.specs.Ask.{Answer, refused, accepted}
-use Rattle.layout.specs.Geometry.{sizeOk, sliceCount, maxDcLen, maxAcLen}
+use Rattle.ask.specs.Limits.{shiftMax}
+use Rattle.ask.specs.Numbers.{noTurn}
+use Rattle.layout.specs.Geometry.{widthOk, sizeOk, sliceCount, maxDcLen, maxAcLen}
 use Rattle.parser.specs.streams.Streams.{oneStream, streams}
 use Rattle.parser.specs.head.Header.{FrameRead}
 use Rattle.parser.specs.Frame.{dcStreams, nthStream, parseOf, viewOf, wanted}
@@ -46,7 +48,7 @@ nth-back limit small pre (s ∷ ss) post w (suc k) h =
     ∙ ap₂ (λ (l : List ℕ) (q : ℕ). bytesOf l (nthStream k limit l q)) g p
     ∙ nth-back limit small (pre ++ streamBytes s) ss post (w .1) k (omega arith)
 
-beyond : (ss : List (List ℕ)) (k : ℕ) → length ss ≤ k → streamAt ss k ≡ refused 14
+beyond : (ss : List (List ℕ)) (k : ℕ) → length ss ≤ k → streamAt ss k ≡ refused noTurn
 beyond [] k h = refl
 beyond (s ∷ ss) zero h = absurd (omega arith)
 beyond (s ∷ ss) (suc k) h = beyond ss k (omega arith)
@@ -63,7 +65,7 @@ by-count w h f kind k ss e c below = go (ltb k (sliceCount h)) refl
         ap (bytesOf f) (view-beyond w h f kind k e l) ∙ sym (beyond ss k (omega (arith, c, l)))
 
 -- ---- the views of a frame with at least one DC stream
-module _ (w h : ℕ) (interlaced : Bool) (quality shift : ℕ) (size : sizeOk w h ≡ true) (small : shift ≤ 15) (s : List ℕ) (ss : List (List ℕ)) (count : length (s ∷ ss) ≡ sliceCount h) (dcs : Within (maxDcLen w) (s ∷ ss)) where
+module _ (w h : ℕ) (interlaced : Bool) (quality shift : ℕ) (size : sizeOk w h ≡ true) (small : shift ≤ shiftMax) (s : List ℕ) (ss : List (List ℕ)) (count : length (s ∷ ss) ≡ sliceCount h) (dcs : Within (maxDcLen w) (s ∷ ss)) where
   abbrev head : List ℕ
   head = headerBytes interlaced quality shift (countByte h)
 
@@ -114,20 +116,18 @@ unfolding allStreams
 none = refl
 
 -- a legal size has a slice
-not-so : (a b c : Bool) → a && (b && (c && false)) ≡ true → ⊥
-not-so true true true e = let z : _≡_ {A = ℕ} 0 1 = cc in omega arith
-not-so true true false e = let z : _≡_ {A = ℕ} 0 1 = cc in omega arith
-not-so true false c e = let z : _≡_ {A = ℕ} 0 1 = cc in omega arith
-not-so false b c e = let z : _≡_ {A = ℕ} 0 1 = cc in omega arith
+not-so : (a : Bool) → a && false ≡ true → ⊥
+not-so true e = let z : _≡_ {A = ℕ} 0 1 = cc in omega arith
+not-so false e = let z : _≡_ {A = ℕ} 0 1 = cc in omega arith
 
 pub a-slice : (w h : ℕ) → sizeOk w h ≡ true → 0 ≡ sliceCount h → ⊥
 a-slice w h e n =
     let z : h ≡ 0 = omega arith in
-    not-so (eqb (w % 2) 0) (leb 16 w) (leb w 7680) (rw z at e)
+    not-so (widthOk w) (rw z at e)
 
 -- For DC and AC streams and every slice number: the part that `viewOf` names in a frame that was built has the bytes of
 -- the stream that was put. There is none, and the refusal is 14, from the slice count on, and of AC where none was put.
-pub view-back : (w h : ℕ) (interlaced : Bool) (quality shift : ℕ) (dc ac : List (List ℕ)) (behind : List ℕ) → shift ≤ 15 → Complete w h dc ac behind → (kind : Bool) (slice : ℕ)
+pub view-back : (w h : ℕ) (interlaced : Bool) (quality shift : ℕ) (dc ac : List (List ℕ)) (behind : List ℕ) → shift ≤ shiftMax → Complete w h dc ac behind → (kind : Bool) (slice : ℕ)
     → let f = writeOf h interlaced quality shift dc ac ++ behind in bytesOf f (viewOf w h f kind slice) ≡ streamAt (ofKind kind dc ac) slice
 unfolding writeOf
 view-back w h interlaced quality shift [] ac behind small p kind slice = absurd (a-slice w h (p .size) (p .dcAll))

@@ -5,6 +5,7 @@ use mathlib.Core.List.{List, [], _∷_}
 use Prim.Native.Nat.{ℕ, zero, suc, _-_, _≤_}
 use lib.ListN.{length, take, drop}
 use Rattle.ask.specs.Ask.{Answer, refused, accepted, andThen}
+use Rattle.ask.specs.Numbers.{noTurn}
 use Rattle.layout.specs.Geometry.{sizeOk, sliceCount, maxDcLen, maxAcLen}
 use Rattle.parser.specs.Frame.{View}
 use Rattle.builder.specs.Build.{Build, Built, headerOf}
@@ -26,7 +27,7 @@ abbrev pub Within : ℕ → List (List ℕ) → Type 0
 Within limit [] = Unit {0}
 Within limit (s ∷ ss) = (length s ≤ limit) × Within limit ss
 
--- "the AC streams of all slices or of none"; bytes may lie behind the last stream only where AC streams are there
+-- "the AC streams of all slices or of none"; bytes may lie after the last stream only where AC streams are there
 abbrev pub AllOrNone : ℕ → List (List ℕ) → List ℕ → Type 0
 AllOrNone h [] behind = behind ≡ []
 AllOrNone h (a ∷ rest) behind = length (a ∷ rest) ≡ sliceCount h
@@ -46,7 +47,7 @@ ofKind true dc ac = ac
 
 -- the stream of a slice; question 14: "Slice number below the count .., AC there when wanted"
 abbrev pub streamAt : List (List ℕ) → ℕ → Answer (List ℕ)
-streamAt [] slice = refused 14
+streamAt [] slice = refused noTurn
 streamAt (s ∷ ss) zero = accepted s
 streamAt (s ∷ ss) (suc slice) = streamAt ss slice
 

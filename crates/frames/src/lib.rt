@@ -1,4 +1,1 @@
 // Frames that were built are the Rust's, and are read back: definitions and theorems, no code.
-pub fn one() -> u8 {
-    1
-}

@@ -11,9 +11,9 @@ use mir.Val.{sel}
 use borrow.Author.Tests.{eqb-true, eqb-false}
 use Rattle.scalar.specs.Scalar.{sat16, maddOf, add32Of, sraOf}
 use Rattle.scalar.proofs.Fill.{getD-tab, tab-ext}
-use Rattle.frow.specs.tails.Tail.{tailOf}
-use Rattle.frow.specs.order.Order.{forwardMirrorOf, sumsOf, diffsOf, forwardSpreadOf, forwardPairsOf, forwardHalfOf, forwardJoinOf}
-use Rattle.frow.proofs.order.Opposite.{sum-side, diff-side}
+use Rattle.frow.specs.rounding.Tail.{tailOf}
+use Rattle.frow.specs.steps.Order.{forwardMirrorOf, sumsOf, diffsOf, forwardSpreadOf, forwardPairsOf, forwardHalfOf, forwardJoinOf}
+use Rattle.frow.proofs.steps.Opposite.{sum-side, diff-side}
 use Rattle.frow.specs.Rows.{at, sideAt, tableAt, dotOf, entryOf, nearOf, farOf, coefficientAt, forwardRowsOf}
 use Rattle.frow.specs.Parts.{tablePart}
 use Rattle.frow.proofs.Wrap.{four}

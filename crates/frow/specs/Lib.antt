@@ -1,4 +1,4 @@
 pub mod Rows
 pub mod Parts
-pub mod tails
-pub mod order
+pub mod rounding
+pub mod steps

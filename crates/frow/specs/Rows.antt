@@ -8,8 +8,8 @@ use mir.Syntax.{w16}
 use mir.Val.{toZ}
 use Rattle.scalar.specs.Scalar.{sat16, wrap32, sraOf}
 use Rattle.scalar.specs.Tab.{tab}
-pub use Rattle.frow.specs.order.Sides.{at, addOrSub}
-unfoldable pub use Rattle.frow.specs.order.Sides.{sideAt}
+pub use Rattle.frow.specs.steps.Sides.{at, addOrSub}
+unfoldable pub use Rattle.frow.specs.steps.Sides.{sideAt}
 
 -- FTAB1 to FTAB4 of tables.rs
 unfoldable pub ftab1 : List ℕ

@@ -32,6 +32,14 @@ pub struct Eight {
     pub y7: i16,
 }
 
+// How a column ends: the rounding of the sums and of the differences, the shift, the level.
+pub struct Ending {
+    pub round: i16,
+    pub corr: i16,
+    pub shift: u32,
+    pub level: i16,
+}
+
 // The odd rows' stage.
 pub fn odd(x1: i16, x3: i16, x5: i16, x7: i16) -> Four
     ensures { λ r. ⌜ r ≡ inverseOddOf x1 x3 x5 x7 ⌝ }
@@ -124,14 +132,15 @@ pub fn column(
     x5: i16,
     x6: i16,
     x7: i16,
-    round: i16,
-    corr: i16,
-    shift: u32,
-    level: i16,
+    k: Ending,
 ) -> Eight
-    requires { ⌜ shift < 16 ⌝ }
-    ensures { λ r. ⌜ r ≡ inverseColumnOf round corr shift level x0 x1 x2 x3 x4 x5 x6 x7 ⌝ }
+    requires { ⌜ k .shift < 16 ⌝ }
+    ensures { λ r. ⌜ r ≡ inverseColumnOf (k .round) (k .corr) (k .shift) (k .level) x0 x1 x2 x3 x4 x5 x6 x7 ⌝ }
 {
+    let round = k.round;
+    let corr = k.corr;
+    let shift = k.shift;
+    let level = k.level;
     let o = odd(x1, x3, x5, x7);
     let e = even(x0, x2, x4, x6, round, corr);
     let y0 = sum_out(o.h0, e.h0, shift, level);

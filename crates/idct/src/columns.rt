@@ -24,10 +24,12 @@ pub fn column_at(
         w[j + 40],
         w[j + 48],
         w[j + 56],
-        round,
-        corr,
-        shift,
-        level,
+        crate::column::Ending {
+            round,
+            corr,
+            shift,
+            level,
+        },
     )
 }
 

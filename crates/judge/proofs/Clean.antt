@@ -1,23 +1,24 @@
 -- A plane's stream ends within so many bytes; where no six zero bytes stand in a row, at no bad code.
 -- B is what holds at a bad code: anything where one may stand, ⊥ where none does.
 use mathlib.Core.Path.{_≡_}
-use mathlib.Core.Bool.{true}
+use mathlib.Core.Bool.{Bool, true, false}
 use mathlib.Core.List.{List}
 use Prim.Native.Nat.{ℕ, _+_, _*_, _≤_, _<_}
 use native.Mathlib.Omega.{arith}
 use lib.ListN.{drop, getD}
 use Rattle.ask.specs.Ask.{Answer, refused, accepted}
+use Rattle.ask.specs.Limits.{strideMax}
 use Rattle.bits.specs.Bits.{Stream, bitAt}
 use Rattle.bits.specs.Read.{readSymbol, readDc}
 use Rattle.bitreader.specs.scan.Six.{noSixZeros}
 use Rattle.bitreader.proofs.scan.Codes.{SymbolTo, DcTo, symbol-to, code-to, no-symbol, no-dc}
 use Rattle.calls.specs.ReadPlane.{Blocks, badBlocks, blocks, readBlocks, DcSteps, badSteps, dcSteps, readSteps}
 use Rattle.calls.specs.Grid.{blocksOf}
-use Rattle.blockread.specs.dc.Steps.{dcEnd}
-use Rattle.preview.proofs.Ends.{StepsTo, steps-to}
 use Rattle.acread.specs.through.Through.{acEnd}
 use Rattle.acread.proofs.through.Ends.{BlocksTo, blocks-to}
-use Rattle.judge.specs.Good.{dcPlane, acPlane}
+use Rattle.judge.specs.Good.{dcPlane, acPlane, streamPlane}
+use Rattle.acread.specs.through.Codes.{dcEnd}
+use Rattle.acread.proofs.through.CodesEnd.{StepsTo, steps-to}
 
 abbrev pub AnswerTo : Type 0 → ℕ → ℕ → Answer ℕ → Type 0
 AnswerTo B a b (refused n) = B
@@ -45,23 +46,18 @@ more a b b′ (accepted q) h e = (e .0, omega arith)
 
 -- a plane has at most 1,920 blocks, each at most 64 codes of 112 bits
 abbrev pub Spans : (ℕ → ℕ → Answer ℕ) → Type 0
-Spans read = (w at : ℕ) → w ≤ 7680 → AnswerTo Unit at (at + 1720320) (read w at)
+Spans read = (w at : ℕ) → w ≤ strideMax → AnswerTo Unit at (at + 1720320) (read w at)
 
-pub dc-spans : (dc : List ℕ) → Spans (dcPlane dc)
-dc-spans dc w at h =
-    more at (at + 896 * blocksOf w) (at + 1720320) (dcPlane dc w at) (omega arith) (dc-to Unit dc 0 (λ p g. code-to (bitAt dc) p) w at (omega arith))
-
-pub ac-spans : (ac : List ℕ) → Spans (acPlane ac)
-ac-spans ac w at h =
-    more at (at + 896 * blocksOf w) (at + 1720320) (acPlane ac w at) (omega arith) (ac-to Unit ac 0 (λ p g. symbol-to (bitAt ac) p) w at (omega arith))
+pub spans : (of-dc : Bool) (l : List ℕ) → Spans (streamPlane of-dc l)
+spans true l w at h =
+    more at (at + 896 * blocksOf w) (at + 1720320) (dcPlane l w at) (omega arith) (dc-to Unit l 0 (λ p g. code-to (bitAt l) p) w at (omega arith))
+spans false l w at h =
+    more at (at + 896 * blocksOf w) (at + 1720320) (acPlane l w at) (omega arith) (ac-to Unit l 0 (λ p g. symbol-to (bitAt l) p) w at (omega arith))
 
 -- from the byte `from` on there is no bad code
 abbrev pub Clean : (ℕ → ℕ → Answer ℕ) → ℕ → Type 0
 Clean read from = (w at : ℕ) → from ≤ at → AnswerTo ⊥ at (at + 896 * blocksOf w) (read w at)
 
-module _ (l : List ℕ) (bytes : (j : ℕ) → getD l j 0 < 256) (from : ℕ) (clean : noSixZeros (drop from l) ≡ true) where
-  pub dc-clean : Clean (dcPlane l) from
-  dc-clean = dc-to ⊥ l from (no-dc l bytes from clean)
-
-  pub ac-clean : Clean (acPlane l) from
-  ac-clean = ac-to ⊥ l from (no-symbol l bytes from clean)
+pub clean : (of-dc : Bool) (l : List ℕ) → ((j : ℕ) → getD l j 0 < 256) → (from : ℕ) → noSixZeros (drop from l) ≡ true → Clean (streamPlane of-dc l) from
+clean true l bytes from z = dc-to ⊥ l from (no-dc l bytes from z)
+clean false l bytes from z = ac-to ⊥ l from (no-symbol l bytes from z)

@@ -2,23 +2,17 @@
 use mathlib.Core.Path.{_≡_, refl, sym, ap, _∙_}
 use mathlib.Core.Bool.{Bool, true, false, _&&_}
 use mathlib.Core.List.{List, [], _∷_}
-use Prim.Native.Nat.{ℕ, zero, suc, _*_, _/_, _≤_, _<_}
-use native.Mathlib.Omega.{arith}
-use lib.Dec.{T}
-use lib.ListN.{take, getD}
-use lib.Seq.{take-nil, getD-take}
+use Prim.Native.Nat.{ℕ, zero, suc, _*_}
+use lib.ListN.{take}
 use Rattle.bits.specs.Bits.{bitAt, bytesFor}
-use Rattle.calls.specs.Arguments.{Settings, Rows, Plane, oneSlice, planesOf, PerStream, Buffers}
+use Rattle.calls.specs.Arguments.{Plane, PerStream, Buffers}
 use Rattle.calls.specs.ReadPlane.{BlockRead, Blocks, badBlocks, blocks, readBlocks, DcSteps, badSteps, dcSteps, readSteps, bothStreams, readPlane}
 use Rattle.calls.specs.Grid.{blocksOf}
-use Rattle.calls.specs.Questions.{each}
 use Rattle.slice.specs.Calls.{PlanesRead, badPlanes, planesRead, planeThen, byPlane, readPlanes}
-use Rattle.calls.proofs.Asked.{and-l, and-r, stride-le}
-use Rattle.blockread.specs.dc.Steps.{goodSteps, dcEnd}
 use Rattle.acread.specs.through.Through.{blockEnds, goodEnds, acEnd}
 use Rattle.blockread.specs.On.{goodPlane}
 use Rattle.judge.specs.Good.{goodPlanes, strides, dcPlane, acPlane, goesOn, goodInTurn}
-use Rattle.ask.specs.Limits.{strideOk}
+use Rattle.acread.specs.through.Codes.{goodSteps, dcEnd}
 
 and-none : (x : Bool) → false ≡ (x && false)
 and-none true = refl
@@ -59,25 +53,8 @@ both-streams {y = y} e f = f ∙ sym (ap (λ (b : Bool). b && y) e)
 pub dc-bad : {x : Bool} (y : Bool) → x ≡ false → false ≡ (x && y)
 dc-bad y e = sym (ap (λ (b : Bool). b && y) e)
 
--- the strides of a slice's first n planes
-pub slice-strides : (σ : Settings) (n : ℕ) (a b c d : Rows) → strides (planesOf (oneSlice σ n a b c d)) ≡ take n (a .stride ∷ b .stride ∷ c .stride ∷ d .stride ∷ [])
-slice-strides σ zero a b c d = refl
-slice-strides σ (suc zero) a b c d = refl
-slice-strides σ (suc (suc zero)) a b c d = refl
-slice-strides σ (suc (suc (suc zero))) a b c d = refl
-slice-strides σ (suc (suc (suc (suc n)))) a b c d = ap (λ (l : List ℕ). a .stride ∷ b .stride ∷ c .stride ∷ d .stride ∷ l) (none n)
-  where
-    none : (n : ℕ) → strides (take n []) ≡ take n []
-    none n = ap strides (take-nil n) ∙ sym (take-nil n)
-
--- question 4 answered yes: no stride is above 7,680
-each-stride : (ps : List Plane) → T (each (λ p. strideOk (p .stride)) ps) → (k : ℕ) → getD (strides ps) k 0 ≤ 7680
-each-stride [] t k = omega arith
-each-stride (p ∷ ps) t zero = stride-le (p .stride) (and-l (strideOk (p .stride)) (each (λ p. strideOk (p .stride)) ps) t)
-each-stride (p ∷ ps) t (suc k) = each-stride ps (and-r (strideOk (p .stride)) (each (λ p. strideOk (p .stride)) ps) t) k
-
-pub slice-most : (σ : Settings) (n : ℕ) (a b c d : Rows) → T (each (λ p. strideOk (p .stride)) (planesOf (oneSlice σ n a b c d))) → (k : ℕ) → k < n
-    → getD (a .stride ∷ b .stride ∷ c .stride ∷ d .stride ∷ []) k 0 ≤ 7680
-slice-most σ n a b c d t k h =
-    let e = ap (λ (l : List ℕ). getD l k 0) (slice-strides σ n a b c d) ∙ getD-take n (a .stride ∷ b .stride ∷ c .stride ∷ d .stride ∷ []) k 0 h in
-    omega (arith, each-stride (planesOf (oneSlice σ n a b c d)) t k, e)
+-- the strides of a slice's first planes
+pub first-strides : (n : ℕ) (ps : List Plane) → strides (take n ps) ≡ take n (strides ps)
+first-strides zero ps = refl
+first-strides (suc n) [] = refl
+first-strides (suc n) (p ∷ ps) = ap (λ (l : List ℕ). p .stride ∷ l) (first-strides n ps)

@@ -2,7 +2,7 @@
 use mathlib.Core.Path.{_≡_, refl, sym, ap, _∙_}
 use mathlib.Core.Bool.{Bool, true, false}
 use mathlib.Core.List.{List, [], _∷_}
-use Prim.Native.Nat.{ℕ, _+_, _-_, _*_, _/_, _^_, _≤_, _<_}
+use Prim.Native.Nat.{ℕ, zero, suc, _+_, _-_, _*_, _/_, _^_, _≤_, _<_}
 use native.Mathlib.Numerals.{add-one}
 use native.Mathlib.Omega.{arith}
 use mir.Syntax.{w8, w64}
@@ -10,8 +10,11 @@ use mir.Val.{Fits}
 use lib.ListN.{length, take, drop, getD, length-drop}
 use lib.Seq.{drop-cons, length-take-le, getD-take}
 use Rattle.ask.specs.Ask.{Answer, refused, accepted}
+use Rattle.ask.specs.Limits.{planesMax, strideMax}
 use Rattle.calls.specs.Grid.{blocksOf}
-use Rattle.judge.specs.Good.{goesOn, goodInTurn}
+use Rattle.calls.specs.Views.{strideBy}
+use Rattle.calls.specs.declared.Four.{Four}
+use Rattle.judge.specs.Good.{firstStrides, goesOn, goodInTurn}
 use Rattle.judge.proofs.Clean.{AnswerTo, Spans, Clean}
 
 -- a stream that is clean from its start on
@@ -58,7 +61,7 @@ module _ (read : ℕ → ℕ → Answer ℕ) (ws : List ℕ) (at k x : ℕ) (i :
     pub turns-bad : {n : ℕ} → refused n ≡ read w x → goodInTurn read ws at ≡ false
     turns-bad e = i .same ∙ ap (λ (l : List ℕ). goodInTurn read l x) here ∙ turn-bad read w (drop (k + 1) ws) x e
 
-    pub turns-next : Spans read → w ≤ 7680 → {q : ℕ} → accepted q ≡ read w x → Turns read ws at (k + 1) q
+    pub turns-next : Spans read → w ≤ strideMax → {q : ℕ} → accepted q ≡ read w x → Turns read ws at (k + 1) q
     turns-next s g {q} e =
         record {
           same = i .same ∙ ap (λ (l : List ℕ). goodInTurn read l x) here ∙ turn-on read w (drop (k + 1) ws) x e;
@@ -90,13 +93,17 @@ module _ {k count : ℕ} (h : k < count) where
 pub of-byte : {x : ℕ} → Fits w8 x → x < 256
 of-byte h = omega arith
 
-pub columns-of : {w g : ℕ} → w ≡ g → g ≤ 7680 → w / 8 ≤ 960
-columns-of e g = omega arith
-
 -- the first planes of four
-module _ (s0 s1 s2 s3 count : ℕ) (most : count ≤ 4) where
-  pub first-length : length (take count (s0 ∷ s1 ∷ s2 ∷ s3 ∷ [])) ≡ count
-  first-length = length-take-le count (s0 ∷ s1 ∷ s2 ∷ s3 ∷ []) most
+pub one-of : (f : Four) (k : ℕ) → k < 4 → strideBy f k ≡ getD (strideBy f 0 ∷ strideBy f 1 ∷ strideBy f 2 ∷ strideBy f 3 ∷ []) k 0
+one-of f zero h = refl
+one-of f (suc zero) h = refl
+one-of f (suc (suc zero)) h = refl
+one-of f (suc (suc (suc zero))) h = refl
+one-of f (suc (suc (suc (suc k)))) h = absurd (omega arith)
 
-  pub first-at : (k w : ℕ) → k < count → w ≡ getD (s0 ∷ s1 ∷ s2 ∷ s3 ∷ []) k 0 → w ≡ getD (take count (s0 ∷ s1 ∷ s2 ∷ s3 ∷ [])) k 0
-  first-at k w h e = e ∙ sym (getD-take count (s0 ∷ s1 ∷ s2 ∷ s3 ∷ []) k 0 h)
+module _ (f : Four) (most : f .count ≤ planesMax) where
+  pub first-length : length (firstStrides f) ≡ f .count
+  first-length = length-take-le (f .count) (strideBy f 0 ∷ strideBy f 1 ∷ strideBy f 2 ∷ strideBy f 3 ∷ []) most
+
+  pub first-at : (k : ℕ) → k < f .count → strideBy f k ≡ getD (firstStrides f) k 0
+  first-at k h = one-of f k (omega arith) ∙ sym (getD-take (f .count) (strideBy f 0 ∷ strideBy f 1 ∷ strideBy f 2 ∷ strideBy f 3 ∷ []) k 0 h)

@@ -1,124 +1,77 @@
 // Is there a bad code in what a reading call reaches? Judged before any sample is stored.
-// A stream without six zero bytes in a row holds none (bitscan); only another is read through. Each stream is judged by itself.
+// A stream without six zero bytes in a row holds none (bitreader::scan); only another is read through. Each stream is judged by itself.
 pub mod verdict;
 
 ghost use mathlib.Core.Path.{_≡_};
-ghost use mathlib.Core.List.{List, [], _∷_};
+ghost use mathlib.Core.List.{List};
 ghost use Prim.Native.Nat.{ℕ, _*_, _^_, _≤_, _<_};
-ghost use lib.ListN.{take, getD};
-ghost use Rattle.calls.specs.Arguments.{Plane, buffers, positions};
+ghost use Rattle.ask.specs.Limits.{strideMax};
+ghost use Rattle.calls.specs.Arguments.{Plane, buffers};
+ghost use Rattle.calls.specs.Views.{positionsBy};
 ghost use Rattle.calls.specs.ReadPlane.{readPlane};
 ghost use Rattle.slice.specs.Calls.{readPlanes};
+ghost use Rattle.acread.specs.through.Through.{endSays};
 ghost use Rattle.blockread.specs.On.{goodPlane};
-ghost use Rattle.judge.specs.Good.{goodPlanes, strides, dcPlane, acPlane, goodInTurn};
+ghost use Rattle.judge.specs.Good.{goodPlanes, strides, firstStrides, StridesFit, streamPlane, goodInTurn};
+use acread::through::PlaneEnd;
+use calls::Four;
+use calls::Positions;
 
-// The stride of plane k.
-fn stride_at(k: usize, stride0: usize, stride1: usize, stride2: usize, stride3: usize) -> usize
-    requires { ⌜ k < 4 ⌝ }
-    ensures { λ r. ⌜ r ≡ getD (stride0 ∷ stride1 ∷ stride2 ∷ stride3 ∷ []) k 0 ⌝ }
+// Where one of a plane's streams ends, the DC or the AC stream.
+fn through(dc: bool, bytes: &[u8], at: usize, stride: usize) -> PlaneEnd
+    requires { ⌜ (at < 2 ^ 31) × (stride ≤ strideMax) ⌝ }
+    ensures { λ r. ⌜ endSays r ≡ streamPlane dc (now (bytes .entry)) stride at ⌝ }
 {
-    if k == 0 {
-        return stride0;
+    if dc {
+        acread::through::through_dc(bytes, at, stride / 8)
+    } else {
+        acread::through::through_ac(bytes, at, stride / 8)
     }
-    if k == 1 {
-        return stride1;
-    }
-    if k == 2 {
-        return stride2;
-    }
-    stride3
 }
 
-// No bad code in the DC stream of the first `count` of four planes.
-fn dc_good(
-    dc: &[u8],
-    d: usize,
-    count: usize,
-    stride0: usize,
-    stride1: usize,
-    stride2: usize,
-    stride3: usize,
-) -> bool
-    requires { ⌜ (d < 2 ^ 30) × (count ≤ 4) × ((k : ℕ) → k < count → getD (stride0 ∷ stride1 ∷ stride2 ∷ stride3 ∷ []) k 0 ≤ 7680) ⌝ }
-    ensures { λ r. ⌜ r ≡ goodInTurn (dcPlane (now (dc .entry))) (take count (stride0 ∷ stride1 ∷ stride2 ∷ stride3 ∷ [])) d ⌝ }
+// No bad code in the DC or the AC stream of the first of four planes, from the byte `from` on.
+fn stream_good(dc: bool, bytes: &[u8], from: usize, f: Four) -> bool
+    requires { ⌜ (from < 2 ^ 30) × StridesFit f ⌝ }
+    ensures { λ r. ⌜ r ≡ goodInTurn (streamPlane dc (now (bytes .entry))) (firstStrides f) from ⌝ }
 {
-    if bitreader::scan::no_six_zeros(dc, d) {
+    if bitreader::scan::no_six_zeros(bytes, from) {
         return true;
     }
-    let mut at = d;
+    let count = f.count;
+    let strides = f.strides;
+    let mut at = from;
     let mut k = 0;
     while k < count {
-        let stride = stride_at(k, stride0, stride1, stride2, stride3);
-        match preview::through_dc(dc, at, stride / 8) {
-            preview::PlaneEnd::At(e) => {
+        match through(dc, bytes, at, strides[k]) {
+            PlaneEnd::At(e) => {
                 at = e;
             }
-            preview::PlaneEnd::Refused(n) => return false,
+            PlaneEnd::Refused(n) => return false,
         }
         k += 1;
     }
     true
 }
 
-// The same of the AC stream.
-fn ac_good(
-    ac: &[u8],
-    a: usize,
-    count: usize,
-    stride0: usize,
-    stride1: usize,
-    stride2: usize,
-    stride3: usize,
-) -> bool
-    requires { ⌜ (a < 2 ^ 30) × (count ≤ 4) × ((k : ℕ) → k < count → getD (stride0 ∷ stride1 ∷ stride2 ∷ stride3 ∷ []) k 0 ≤ 7680) ⌝ }
-    ensures { λ r. ⌜ r ≡ goodInTurn (acPlane (now (ac .entry))) (take count (stride0 ∷ stride1 ∷ stride2 ∷ stride3 ∷ [])) a ⌝ }
+// No bad code in a plane's two streams, from these positions on.
+pub fn plane(dc: &[u8], ac: &[u8], columns: usize, at: Positions) -> bool
+    requires { ⌜ (at .dc < 2 ^ 30) × (at .ac < 2 ^ 30) × (columns ≤ 960) ⌝ }
+    ensures { λ r. ⌜ ((shift : ℕ) → r ≡ goodPlane (readPlane shift (2 * columns) (now (dc .entry)) (now (ac .entry)) (at .dc) (at .ac))) ⌝ }
 {
-    if bitreader::scan::no_six_zeros(ac, a) {
-        return true;
-    }
-    let mut at = a;
-    let mut k = 0;
-    while k < count {
-        let stride = stride_at(k, stride0, stride1, stride2, stride3);
-        match acread::through::through_ac(ac, at, stride / 8) {
-            acread::through::PlaneEnd::At(e) => {
-                at = e;
-            }
-            acread::through::PlaneEnd::Refused(n) => return false,
-        }
-        k += 1;
-    }
-    true
-}
-
-// No bad code in a plane's two streams, from the bytes d and a on.
-pub fn plane(dc: &[u8], d: usize, ac: &[u8], a: usize, columns: usize) -> bool
-    requires { ⌜ (d < 2 ^ 30) × (a < 2 ^ 30) × (columns ≤ 960) ⌝ }
-    ensures { λ r. ⌜ ((shift : ℕ) → r ≡ goodPlane (readPlane shift (2 * columns) (now (dc .entry)) (now (ac .entry)) d a)) ⌝ }
-{
-    if preview::plane_good(dc, d, columns) {
-        return acread::through::plane_good(ac, a, columns);
+    if acread::through::dc_good(dc, at.dc, columns) {
+        return acread::through::ac_good(ac, at.ac, columns);
     }
     false
 }
 
-// No bad code in the streams of a slice's first `count` planes, from the bytes d and a on.
-pub fn slice(
-    dc: &[u8],
-    d: usize,
-    ac: &[u8],
-    a: usize,
-    count: usize,
-    stride0: usize,
-    stride1: usize,
-    stride2: usize,
-    stride3: usize,
-) -> bool
-    requires { ⌜ (d < 2 ^ 30) × (a < 2 ^ 30) × (count ≤ 4) × ((k : ℕ) → k < count → getD (stride0 ∷ stride1 ∷ stride2 ∷ stride3 ∷ []) k 0 ≤ 7680) ⌝ }
-    ensures { λ r. ⌜ ((shift : ℕ) (ps : List Plane) → strides ps ≡ take count (stride0 ∷ stride1 ∷ stride2 ∷ stride3 ∷ []) → r ≡ goodPlanes (readPlanes shift ps (buffers (now (dc .entry)) (now (ac .entry))) (positions d a))) ⌝ }
+// No bad code in the streams of the first of four planes, from these positions on.
+pub fn slice(dc: &[u8], ac: &[u8], f: Four, at: Positions) -> bool
+    requires { ⌜ (at .dc < 2 ^ 30) × (at .ac < 2 ^ 30) × StridesFit f ⌝ }
+    ensures { λ r. ⌜ ((shift : ℕ) (ps : List Plane) → strides ps ≡ firstStrides f
+        → r ≡ goodPlanes (readPlanes shift ps (buffers (now (dc .entry)) (now (ac .entry))) (positionsBy at))) ⌝ }
 {
-    if dc_good(dc, d, count, stride0, stride1, stride2, stride3) {
-        return ac_good(ac, a, count, stride0, stride1, stride2, stride3);
+    if stream_good(true, dc, at.dc, f) {
+        return stream_good(false, ac, at.ac, f);
     }
     false
 }

@@ -1,93 +1,57 @@
-// The number that a reading call answers: that of the first "no" among the questions, 8 for a bad code in what it reaches, else 0.
-// It is known before anything is stored.
-ghost use mathlib.Core.Path.{_≡_};
-ghost use mathlib.Core.List.{List};
-ghost use Prim.Native.Nat.{ℕ};
-ghost use lib.ListN.{length};
-ghost use Rattle.calls.specs.Arguments.{Depth, buffers, positions};
-ghost use Rattle.slice.specs.Calls.{decode};
-ghost use Rattle.calls.specs.Views.{planeCall, sliceCall};
-
-const BAD_CODE: u32 = 8;
+// The number that a reading call answers: that of the first "no" among the questions, question 8 for a bad code in what it reaches,
+// else 0. It is known before anything is stored.
+ghost use Rattle.calls.specs.Arguments.{buffers};
+ghost use Rattle.calls.specs.Views.{positionsBy};
+ghost use Rattle.judge.specs.verdict.Verdict.{PlaneVerdict, SliceVerdict};
+use ask::numbers::NO_CODE;
+use calls::Four;
+use calls::Positions;
+use calls::Settings;
+use calls::Shape;
+use calls::Stream;
 
 // The number for a plane whose rows have so many samples.
-pub fn plane(
-    preset: usize,
-    shift: u32,
-    place: usize,
-    stride: usize,
-    rows: usize,
-    dc: &[u8],
-    d: usize,
-    ac: &[u8],
-    a: usize,
-) -> u32
-    ensures { λ r. ⌜ ((depth : Depth) (samples : List ℕ) → length samples ≡ rows → r ≡ decode (planeCall depth preset shift place stride samples) (buffers (now (dc .entry)) (now (ac .entry))) (positions d a) .number) ⌝ }
+pub fn plane(s: Settings, h: Shape, rows: usize, dc: &[u8], ac: &[u8], at: Positions) -> u32
+    ensures { λ r. ⌜ PlaneVerdict s h rows (buffers (now (dc .entry)) (now (ac .entry))) (positionsBy at) r ⌝ }
 {
-    let n = questions::of_call::reading_plane(
-        preset,
-        shift,
-        place,
-        stride,
-        rows,
-        dc.len(),
-        d,
-        ac.len(),
-        a,
-    );
+    let dc_stream = Stream {
+        len: dc.len(),
+        at: at.dc,
+    };
+    let ac_stream = Stream {
+        len: ac.len(),
+        at: at.ac,
+    };
+    let n = questions::of_call::reading_plane(s, h, rows, dc_stream, ac_stream);
     if 0 < n {
         return n;
     }
-    if crate::plane(dc, d, ac, a, stride / 8) {
+    if crate::plane(dc, ac, h.stride / 8, at) {
         0
     } else {
-        BAD_CODE
+        NO_CODE
     }
 }
 
 // The number for a slice whose planes' rows have so many samples.
-pub fn slice(
-    count: usize,
-    preset: usize,
-    shift: u32,
-    stride0: usize,
-    rows0: usize,
-    stride1: usize,
-    rows1: usize,
-    stride2: usize,
-    rows2: usize,
-    stride3: usize,
-    rows3: usize,
-    dc: &[u8],
-    d: usize,
-    ac: &[u8],
-    a: usize,
-) -> u32
-    ensures { λ r. ⌜ ((depth : Depth) (p0 p1 p2 p3 : List ℕ) → length p0 ≡ rows0 → length p1 ≡ rows1 → length p2 ≡ rows2 → length p3 ≡ rows3 → r ≡ decode (sliceCall depth preset shift count stride0 p0 stride1 p1 stride2 p2 stride3 p3) (buffers (now (dc .entry)) (now (ac .entry))) (positions d a) .number) ⌝ }
+pub fn slice(s: Settings, f: Four, rows: [usize; 4], dc: &[u8], ac: &[u8], at: Positions) -> u32
+    ensures { λ r. ⌜ SliceVerdict s f rows (buffers (now (dc .entry)) (now (ac .entry))) (positionsBy at) r ⌝ }
 {
-    let n = questions::of_call::reading_slice(
-        count,
-        preset,
-        shift,
-        stride0,
-        rows0,
-        stride1,
-        rows1,
-        stride2,
-        rows2,
-        stride3,
-        rows3,
-        dc.len(),
-        d,
-        ac.len(),
-        a,
-    );
+    let dc_stream = Stream {
+        len: dc.len(),
+        at: at.dc,
+    };
+    let ac_stream = Stream {
+        len: ac.len(),
+        at: at.ac,
+    };
+    let n = questions::of_call::reading_slice(s, f, rows, dc_stream, ac_stream);
     if 0 < n {
         return n;
     }
-    if crate::slice(dc, d, ac, a, count, stride0, stride1, stride2, stride3) {
+    if crate::slice(dc, ac, f, at) {
         0
     } else {
-        BAD_CODE
+        NO_CODE
     }
 }

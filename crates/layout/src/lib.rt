@@ -9,7 +9,8 @@ ghost use mathlib.Core.List.{[], _∷_};
 ghost use Prim.Native.Nat.{_/_, _≤_};
 ghost use Rattle.ask.specs.Ask.{firstNo};
 ghost use Rattle.ask.specs.Limits.{widthMax, heightMax};
-ghost use Rattle.layout.specs.Geometry.{alignUp, widthOk, heightOk, sizeOk, sizeQuestion, alignedHeight, sliceCount, maxDcLen, maxAcLen, interlaceCapable, layoutOf, imageRowOf, previewWidth, previewHeight};
+ghost use Rattle.layout.specs.Geometry.{alignUp, widthOk, heightOk, sizeOk, sizeQuestion, layoutOf};
+ghost use Rattle.layout.specs.Geometry.{alignedHeight, sliceCount, maxDcLen, maxAcLen, interlaceCapable, imageRowOf, previewWidth, previewHeight};
 ghost use Rattle.layout.specs.Views.{layoutSays, rowSays};
 
 // Bytes that a stream may have for each sample of plane 0's stride.

@@ -10,10 +10,7 @@ use parser::ViewAnswer;
 ghost use mathlib.Core.Path.{_≡_};
 ghost use mathlib.Core.List.{List};
 ghost use Prim.Native.Nat.{ℕ};
-ghost use Rattle.ask.specs.Ask.{Answer, numberIn};
-ghost use Rattle.layout.specs.Geometry.{Geometry};
-ghost use Rattle.parser.specs.head.Header.{FrameRead};
-ghost use Rattle.parser.specs.Frame.{View};
+ghost use Rattle.ask.specs.Ask.{Answer};
 ghost use Rattle.layout.specs.Views.{layoutSays, rowSays, isAc};
 ghost use Rattle.parser.specs.Views.{frameSays, viewSays};
 ghost use Rattle.tables.specs.Quality.{qualityPreset};
@@ -22,7 +19,9 @@ ghost use Rattle.builder.specs.Views.{HeaderCall};
 ghost use Rattle.builder.specs.streams.Views.{StreamCall};
 ghost use Rattle.builder.specs.declared.Builder.{Builder};
 ghost use Rattle.shown.specs.Shown.{wasAccepted};
-ghost use Rattle.outs.specs.frame.Outs.{left, isOn, flagOf, isImageRow, rowLeft};
+ghost use Rattle.outs.specs.frame.Outs.{isOn, flagOf, isImageRow, rowLeft, handed, handedBy};
+ghost use Rattle.outs.specs.frame.Outs.{layoutPlaces, layoutParts, framePlaces, frameParts, viewPlaces, viewParts, noPart};
+ghost use Rattle.outs.specs.frame.Outs.{startPlaces, startParts, putPlaces, putParts};
 
 // A truth value as a number.
 pub fn flag(b: bool) -> u32
@@ -55,7 +54,12 @@ pub fn layout_out(
     max_dc_len: &mut usize,
     max_ac_len: &mut usize,
 ) -> u32
-    ensures { λ r. ⌜ ((a : Answer Geometry) → layoutSays answer ≡ a → (r ≡ numberIn a) × (now («aligned_height» .exit) ≡ left a (now («aligned_height» .entry)) (λ (g : Geometry). g .alignedHeight)) × (now (slices .exit) ≡ left a (now (slices .entry)) (λ (g : Geometry). g .slices)) × (now (luma .exit) ≡ left a (now (luma .entry)) (λ (g : Geometry). g .luma)) × (now (chroma .exit) ≡ left a (now (chroma .entry)) (λ (g : Geometry). g .chroma)) × (now («max_dc_len» .exit) ≡ left a (now («max_dc_len» .entry)) (λ (g : Geometry). g .maxDcLen)) × (now («max_ac_len» .exit) ≡ left a (now («max_ac_len» .entry)) (λ (g : Geometry). g .maxAcLen))) ⌝ }
+    ensures { λ r. ⌜ handed r
+        (layoutPlaces (now («aligned_height» .exit)) (now (slices .exit)) (now (luma .exit)) (now (chroma .exit))
+        (now («max_dc_len» .exit)) (now («max_ac_len» .exit)))
+        ≡ handedBy (layoutSays answer) layoutParts
+        (layoutPlaces (now («aligned_height» .entry)) (now (slices .entry)) (now (luma .entry)) (now (chroma .entry))
+        (now («max_dc_len» .entry)) (now («max_ac_len» .entry))) ⌝ }
 {
     match answer {
         LayoutAnswer::Refused(x) => x,
@@ -73,7 +77,8 @@ pub fn layout_out(
 
 // Of a coded row: whether it is a row of the image, and which one.
 pub fn row_out(answer: RowAnswer, row: &mut usize) -> u32
-    ensures { λ there. ⌜ (there ≡ flagOf (isImageRow (rowSays answer))) × (now (row .exit) ≡ rowLeft (rowSays answer) (now (row .entry))) ⌝ }
+    ensures { λ there. ⌜ (there ≡ flagOf (isImageRow (rowSays answer)))
+        × (now (row .exit) ≡ rowLeft (rowSays answer) (now (row .entry))) ⌝ }
 {
     match answer {
         RowAnswer::Padding => 0,
@@ -102,7 +107,10 @@ pub fn frame_out(
     header_len: &mut usize,
     ac: &mut u32,
 ) -> u32
-    ensures { λ r. ⌜ ((a : Answer FrameRead) → frameSays answer ≡ a → (r ≡ numberIn a) × (now (interlaced .exit) ≡ left a (now (interlaced .entry)) (λ (f : FrameRead). flagOf (f .interlaced))) × (now (quality .exit) ≡ left a (now (quality .entry)) (λ (f : FrameRead). f .quality)) × (now («dc_shift» .exit) ≡ left a (now («dc_shift» .entry)) (λ (f : FrameRead). f .dcShift)) × (now («header_len» .exit) ≡ left a (now («header_len» .entry)) (λ (f : FrameRead). f .headerLen)) × (now (ac .exit) ≡ left a (now (ac .entry)) (λ (f : FrameRead). flagOf (f .acThere)))) ⌝ }
+    ensures { λ r. ⌜ handed r
+        (framePlaces (now (interlaced .exit)) (now (quality .exit)) (now («dc_shift» .exit)) (now («header_len» .exit)) (now (ac .exit)))
+        ≡ handedBy (frameSays answer) frameParts
+        (framePlaces (now (interlaced .entry)) (now (quality .entry)) (now («dc_shift» .entry)) (now («header_len» .entry)) (now (ac .entry))) ⌝ }
 {
     match answer {
         FrameAnswer::Refused(x) => x,
@@ -119,7 +127,7 @@ pub fn frame_out(
 
 // Of a slice's stream: where it lies in the frame.
 pub fn view_out(answer: ViewAnswer, offset: &mut usize, len: &mut usize) -> u32
-    ensures { λ r. ⌜ ((a : Answer View) → viewSays answer ≡ a → (r ≡ numberIn a) × (now (offset .exit) ≡ left a 0 (λ (v : View). v .offset)) × (now (len .exit) ≡ left a 0 (λ (v : View). v .size))) ⌝ }
+    ensures { λ r. ⌜ handed r (viewPlaces (now (offset .exit)) (now (len .exit))) ≡ handedBy (viewSays answer) viewParts noPart ⌝ }
 {
     match answer {
         ViewAnswer::Refused(x) => {
@@ -145,7 +153,12 @@ pub fn header_out(
     next: &mut usize,
     at: &mut usize,
 ) -> u32
-    ensures { λ r. ⌜ ((out out' : List ℕ) (a : Answer Built) → HeaderCall answer out out' a → (r ≡ numberIn a) × (out' ≡ left a out (λ (b : Built). b .bytes)) × (now (slices .exit) ≡ left a (now (slices .entry)) (λ (b : Built). b .state .slices)) × (now («max_dc_len» .exit) ≡ left a (now («max_dc_len» .entry)) (λ (b : Built). b .state .maxDcLen)) × (now («max_ac_len» .exit) ≡ left a (now («max_ac_len» .entry)) (λ (b : Built). b .state .maxAcLen)) × (now («ac_turn» .exit) ≡ left a (now («ac_turn» .entry)) (λ (b : Built). flagOf (b .state .acTurn))) × (now (next .exit) ≡ left a (now (next .entry)) (λ (b : Built). b .state .next)) × (now (at .exit) ≡ left a (now (at .entry)) (λ (b : Built). b .state .at))) ⌝ }
+    ensures { λ r. ⌜ ((out out' : List ℕ) (a : Answer Built) → HeaderCall answer out out' a → handed r
+        (startPlaces out' (now (slices .exit)) (now («max_dc_len» .exit)) (now («max_ac_len» .exit))
+        (now («ac_turn» .exit)) (now (next .exit)) (now (at .exit)))
+        ≡ handedBy a startParts
+        (startPlaces out (now (slices .entry)) (now («max_dc_len» .entry)) (now («max_ac_len» .entry))
+        (now («ac_turn» .entry)) (now (next .entry)) (now (at .entry)))) ⌝ }
 {
     match answer {
         HeaderAnswer::Refused(x) => x,
@@ -163,7 +176,10 @@ pub fn header_out(
 
 // Of a stream that was put, or not: what moves in the builder's state.
 pub fn stream_out(answer: StreamAnswer, ac_turn: &mut u32, next: &mut usize, at: &mut usize) -> u32
-    ensures { λ r. ⌜ ((was : Builder) (out out' : List ℕ) (a : Answer Built) → StreamCall was answer out out' a → (r ≡ numberIn a) × (out' ≡ left a out (λ (b : Built). b .bytes)) × (now («ac_turn» .exit) ≡ left a (now («ac_turn» .entry)) (λ (b : Built). flagOf (b .state .acTurn))) × (now (next .exit) ≡ left a (now (next .entry)) (λ (b : Built). b .state .next)) × (now (at .exit) ≡ left a (now (at .entry)) (λ (b : Built). b .state .at))) ⌝ }
+    ensures { λ r. ⌜ ((was : Builder) (out out' : List ℕ) (a : Answer Built) → StreamCall was answer out out' a → handed r
+        (putPlaces out' (now («ac_turn» .exit)) (now (next .exit)) (now (at .exit)))
+        ≡ handedBy a putParts
+        (putPlaces out (now («ac_turn» .entry)) (now (next .entry)) (now (at .entry)))) ⌝ }
 {
     match answer {
         StreamAnswer::Refused(x, _) => x,

@@ -1,4 +1,3 @@
 pub mod Paint
 pub mod Samples
-pub mod flats
 pub mod row

@@ -16,7 +16,7 @@ use Rattle.parser.proofs.streams.Laws.{one-inside, streams-inside, one-
 use Rattle.parser.specs.streams.Streams.{lengthAt, oneStream, streams}
 use Rattle.parser.proofs.head.Laws.{begins-inside}
 use Rattle.parser.specs.head.Header.{formatAt, headerLength, headerQuestions, FrameRead, frameRead}
-use Rattle.parser.specs.Frame.{dcStreams, parseOf, View, partAt, kindStart, kindLimit, wanted, nthStream, kindView, viewOf}
+use Rattle.parser.specs.Frame.{dcStreams, parseOf, View, streamPart, kindStart, kindLimit, wanted, nthStream, kindView, viewOf}
 use Rattle.parser.specs.Views.{viewSays}
 use Rattle.layout.specs.declared.Kind.{Kind}
 use Rattle.parser.specs.declared.ViewAnswer.{ViewAnswer}
@@ -99,11 +99,11 @@ module _ (n limit : ℕ) (f : List ℕ) (p : ℕ) where
   unfolding nthStream
   nth-no e d = rw (e, d)
 
-  pub nth-yes : {q r : ℕ} → streams n limit f p ≡ accepted q → oneStream limit f q ≡ accepted r → nthStream n limit f p ≡ accepted (partAt f q)
+  pub nth-yes : {q r : ℕ} → streams n limit f p ≡ accepted q → oneStream limit f q ≡ accepted r → nthStream n limit f p ≡ accepted (streamPart f q)
   unfolding nthStream
   nth-yes e d = rw (e, d)
 
-pub part-is : (f : List ℕ) (q : ℕ) {e : ℕ} → e ≡ q + 4 + lengthAt f q → record { offset = q + 4; size = e - (q + 4) } ≡ partAt f q
+pub part-is : (f : List ℕ) (q : ℕ) {e : ℕ} → e ≡ q + 4 + lengthAt f q → record { offset = q + 4; size = e - (q + 4) } ≡ streamPart f q
 part-is f q {e} g =
     let z : e - (q + 4) ≡ lengthAt f q = omega arith in
     ap (λ (n : ℕ). record { offset = q + 4; size = n }) z
@@ -181,10 +181,10 @@ module _ (f : List ℕ) where
   Held (refused m) = Unit {0}
   Held (accepted v) = v .offset + v .size ≤ length f
 
-  one-held : (limit q : ℕ) → Held (andThen (oneStream limit f q) (λ e. accepted (partAt f q)))
+  one-held : (limit q : ℕ) → Held (andThen (oneStream limit f q) (λ e. accepted (streamPart f q)))
   one-held limit q = go (oneStream limit f q) refl
     where
-      go : (a : Answer ℕ) → oneStream limit f q ≡ a → Held (andThen a (λ e. accepted (partAt f q)))
+      go : (a : Answer ℕ) → oneStream limit f q ≡ a → Held (andThen a (λ e. accepted (streamPart f q)))
       go (refused m) x = tt
       go (accepted r) x = omega (arith, one-end limit f q x, one-inside limit f q r x)
 
@@ -192,7 +192,7 @@ module _ (f : List ℕ) where
   unfolding nthStream
   nth-held n limit p = go (streams n limit f p)
     where
-      go : (a : Answer ℕ) → Held (andThen a (λ q. andThen (oneStream limit f q) (λ e. accepted (partAt f q))))
+      go : (a : Answer ℕ) → Held (andThen a (λ q. andThen (oneStream limit f q) (λ e. accepted (streamPart f q))))
       go (refused m) = tt
       go (accepted q) = one-held limit q
 

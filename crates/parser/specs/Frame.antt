@@ -33,8 +33,8 @@ pub record View : Type 0 where
   pub offset : ℕ
   pub size : ℕ
 
-abbrev pub partAt : List ℕ → ℕ → View
-partAt f p = record { offset = p + 4; size = lengthAt f p }
+abbrev pub streamPart : List ℕ → ℕ → View
+streamPart f p = record { offset = p + 4; size = lengthAt f p }
 
 -- where the streams of a kind begin (ac: the AC streams)
 abbrev pub kindStart : Bool → ℕ → ℕ → List ℕ → Answer ℕ
@@ -52,7 +52,7 @@ wanted true r = r .acThere
 
 -- the stream of a slice is found by walking over those before it
 unfoldable pub nthStream : ℕ → ℕ → List ℕ → ℕ → Answer View
-nthStream n limit f p = andThen (streams n limit f p) (λ q. andThen (oneStream limit f q) (λ e. accepted (partAt f q)))
+nthStream n limit f p = andThen (streams n limit f p) (λ q. andThen (oneStream limit f q) (λ e. accepted (streamPart f q)))
 
 abbrev pub kindView : Bool → ℕ → ℕ → List ℕ → ℕ → Answer View
 kindView ac w h f slice = andThen (kindStart ac w h f) (λ p. nthStream slice (kindLimit ac w) f p)

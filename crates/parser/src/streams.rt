@@ -1,4 +1,4 @@
-// The streams of a frame (layout.rs): one behind the other, each after a 32-bit length, low byte first.
+// The streams of a frame (layout.rs): one after the other, each after a 32-bit length, low byte first.
 use ask::numbers::NO_BYTES;
 use ask::numbers::NO_LIMIT;
 ghost use mathlib.Core.Path.{_≡_};

@@ -1,14 +1,21 @@
 -- What a preview answers. Document 01, 'Plane and slice', 'Preview'.
+use mathlib.Core.Path.{_≡_}
 use mathlib.Core.List.{List}
 use Prim.Native.Nat.{ℕ}
-use Rattle.ask.specs.Ask.{Answer, refused, accepted}
+use lib.ListN.{length}
+use Rattle.ask.specs.Ask.{firstNo}
+use Rattle.calls.specs.Questions.{previewQuestions}
 use Rattle.calls.specs.Previews.{Previewed}
-use Rattle.preview.specs.declared.PlaneEnd.{PlaneEnd}
-use Rattle.preview.specs.declared.PlaneEnd.the-variants as plane
+use Rattle.calls.specs.declared.Shape.{Shape}
+use Rattle.calls.specs.declared.Stream.{Stream}
+use Rattle.acread.specs.declared.through.PlaneEnd.{PlaneEnd}
+use Rattle.acread.specs.declared.through.PlaneEnd.the-variants as plane
 
-abbrev pub endSays : PlaneEnd → Answer ℕ
-endSays (plane.At q) = accepted q
-endSays (plane.Refused n) = refused n
+-- the number of the first "no" to a preview whose two outputs have room for so many bytes, whatever they are
+abbrev pub PreviewNumber : ℕ → Shape → ℕ → ℕ → Stream → ℕ → Type 0
+PreviewNumber shift h over under dc r =
+    (upper lower : List ℕ) → length upper ≡ over → length lower ≡ under
+    → r ≡ firstNo (previewQuestions shift (h .place) (h .stride) upper lower (dc .len) (dc .at))
 
 -- number, position and rows of an answer to a call that started at `at`: a refusal hands the start back
 abbrev pub previewSays : ℕ → PlaneEnd → List ℕ → List ℕ → Previewed

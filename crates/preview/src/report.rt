@@ -1,25 +1,31 @@
 // The block report: which blocks of a plane no AC symbol is read for, from the plane's AC stream alone.
-// The stream is judged before a byte is stored: one without six zero bytes in a row holds no bad code, only another is read through.
+// The stream is judged before a byte is stored.
 ghost use mathlib.Core.Path.{_≡_};
 ghost use mathlib.Core.Bool.{true};
-ghost use mathlib.Core.List.{List};
-ghost use Prim.Native.Nat.{ℕ, _*_, _≤_};
+ghost use Prim.Native.Nat.{_*_, _≤_};
 ghost use lib.ListN.{length};
-ghost use Rattle.ask.specs.Ask.{accepted, firstNo};
+ghost use Rattle.ask.specs.Ask.{accepted};
+ghost use Rattle.ask.specs.Limits.{startMax};
 ghost use Rattle.bits.specs.Bits.{bitAt};
 ghost use Rattle.bits.specs.Lay.{lay};
 ghost use Rattle.calls.specs.ReadPlane.{readBlocks};
-ghost use Rattle.calls.specs.Questions.{reportQuestions};
 ghost use Rattle.calls.specs.Previews.{blockReport};
 ghost use Rattle.acread.specs.through.Through.{blockEnds, goodEnds, reportsOf, acEnd};
-ghost use Rattle.preview.specs.report.Report.{reportSays};
+ghost use Rattle.preview.specs.report.Report.{ReportNumber, reportSays};
 use acread::BlockEnd;
 use acread::through::PlaneEnd;
+use ask::numbers::NO_CODE;
+use ask::numbers::NO_ROWS;
+use ask::numbers::NO_START;
+use ask::numbers::NO_STRIDE;
+use calls::Stream;
 
 // Stores one byte a block, for n blocks of a stream that was judged good; the byte behind them.
 fn store_report(ac: &[u8], at: usize, n: usize, report: &mut [u8]) -> usize
-    requires { ⌜ (at ≤ 16777215) × (n ≤ 1920) × (n ≤ length (now report)) × (goodEnds (blockEnds (readBlocks n (bitAt (now ac)) (8 * at) 0)) ≡ true) ⌝ }
-    ensures { λ r. ⌜ (accepted r ≡ acEnd (readBlocks n (bitAt (now (ac .entry))) (8 * at) 0)) × (now (report .exit) ≡ lay (now (report .entry)) 0 (reportsOf (readBlocks n (bitAt (now (ac .entry))) (8 * at) 0))) ⌝ }
+    requires { ⌜ (at ≤ startMax) × (n ≤ 1920) × (n ≤ length (now report))
+        × (goodEnds (blockEnds (readBlocks n (bitAt (now ac)) (8 * at) 0)) ≡ true) ⌝ }
+    ensures { λ r. ⌜ (accepted r ≡ acEnd (readBlocks n (bitAt (now (ac .entry))) (8 * at) 0))
+        × (now (report .exit) ≡ lay (now (report .entry)) 0 (reportsOf (readBlocks n (bitAt (now (ac .entry))) (8 * at) 0))) ⌝ }
 {
     let mut c = bitreader::cursor(ac, 8 * at);
     let mut pending: u64 = 0;
@@ -38,36 +44,29 @@ fn store_report(ac: &[u8], at: usize, n: usize, report: &mut [u8]) -> usize
     bitreader::end_byte(c)
 }
 
-// The first "no" among the questions, 0 where there is none; the report has room for so many bytes, the stream so many.
-fn report_number(stride: usize, room: usize, bytes: usize, at: usize) -> u32
-    ensures { λ r. ⌜ ((report : List ℕ) → length report ≡ room → r ≡ firstNo (reportQuestions stride report bytes at)) ⌝ }
+// The first "no" among the questions, 0 where there is none; the report has room for so many bytes.
+fn report_number(stride: usize, room: usize, ac: Stream) -> u32
+    ensures { λ r. ⌜ ReportNumber stride room ac r ⌝ }
 {
-    if questions::one::stride_ok(stride) {
-        if room < stride / 4 {
-            return 5;
-        }
-        if 16777215 < at {
-            return 7;
-        }
-        if 430080 < bytes {
-            return 7;
-        }
-        return 0;
-    }
-    4
+    let starts = ask::both(ask::start_ok(ac.at), ask::ac_read_ok(ac.len));
+    let from_7 = ask::or_else(starts, NO_START, 0);
+    let from_5 = ask::or_else(stride / 4 <= room, NO_ROWS, from_7);
+    ask::or_else(ask::stride_ok(stride), NO_STRIDE, from_5)
 }
 
 // One byte a block in coding order: 1 where no AC symbol is read for it; and the byte where the plane's AC stream ends.
 pub fn block_report(stride: usize, report: &mut [u8], ac: &[u8], at: usize) -> PlaneEnd
     ensures { λ r. ⌜ reportSays at r (now (report .exit)) ≡ blockReport stride (now (report .entry)) (now (ac .entry)) at ⌝ }
 {
-    let x = report_number(stride, report.len(), ac.len(), at);
+    let stream = Stream { len: ac.len(), at };
+    let x = report_number(stride, report.len(), stream);
     if 0 < x {
         return PlaneEnd::Refused(x);
     }
     let columns = stride / 8;
-    if acread::through::plane_good(ac, at, columns) {
-        return PlaneEnd::At(store_report(ac, at, 2 * columns, report));
+    if acread::through::ac_good(ac, at, columns) {
+        let end = store_report(ac, at, 2 * columns, report);
+        return PlaneEnd::At(end);
     }
-    PlaneEnd::Refused(8)
+    PlaneEnd::Refused(NO_CODE)
 }

@@ -3,12 +3,13 @@ ghost use mathlib.Core.Path.{_≡_};
 ghost use mathlib.Core.Bool.{true};
 ghost use Prim.Native.Nat.{_*_, _^_, _≤_, _<_};
 ghost use lib.ListN.{length};
+ghost use Rattle.ask.specs.Limits.{startMax};
 ghost use Rattle.bits.specs.Bits.{bitAt};
 ghost use Rattle.bitreader.specs.Cursor.{At};
 ghost use Rattle.calls.specs.ReadPlane.{readSteps};
-ghost use Rattle.blockread.specs.dc.Steps.{goodSteps};
 ghost use Rattle.preview.specs.row.Row.{RowDone, Stored};
 use bitreader::AcCursor;
+ghost use Rattle.acread.specs.through.Codes.{goodSteps};
 
 // What a row of blocks leaves: the cursor behind its last code, and its last DC.
 pub struct RowEnd {
@@ -52,8 +53,10 @@ pub fn store_preview(
     dc: &[u8],
     at: usize,
 ) -> usize
-    requires { ⌜ (shift < 16) × (columns ≤ 960) × (columns ≤ length (now upper)) × (columns ≤ length (now lower)) × (at ≤ 16777215) × (goodSteps (readSteps (2 * columns) (bitAt (now dc)) (8 * at)) ≡ true) ⌝ }
-    ensures { λ r. ⌜ Stored shift place columns (now (upper .entry)) (now (upper .exit)) (now (lower .entry)) (now (lower .exit)) (readSteps (2 * columns) (bitAt (now (dc .entry))) (8 * at)) r ⌝ }
+    requires { ⌜ (shift < 16) × (columns ≤ 960) × (columns ≤ length (now upper)) × (columns ≤ length (now lower)) × (at ≤ startMax)
+        × (goodSteps (readSteps (2 * columns) (bitAt (now dc)) (8 * at)) ≡ true) ⌝ }
+    ensures { λ r. ⌜ Stored shift place columns (now (upper .entry)) (now (upper .exit)) (now (lower .entry)) (now (lower .exit))
+        (readSteps (2 * columns) (bitAt (now (dc .entry))) (8 * at)) r ⌝ }
 {
     let c = bitreader::cursor(dc, 8 * at);
     let level = planes::lane8(place);

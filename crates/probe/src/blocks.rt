@@ -1,6 +1,7 @@
 // Many blocks a call, so that the oracle can time a block: a row of blocks, transformed one behind the other.
 // No contract beyond being safe on any arguments.
 ghost use Prim.Native.Nat.{_≤_};
+ghost use Rattle.ask.specs.Limits.{strideMax};
 
 // A block of 64 out of lent numbers; zeros where there are fewer.
 fn block(s: &[i16]) -> [i16; 64] {
@@ -29,13 +30,13 @@ pub extern "C" fn probe_blocks_forward8(
     preset: usize,
     out: &mut [i16],
 ) {
-    if 24 < preset {
+    if ask::limits::PRESET_MAX < preset {
         return;
     }
     if stride < 8 {
         return;
     }
-    if 7680 < stride {
+    if ask::limits::STRIDE_MAX < stride {
         return;
     }
     if rows.len() < 8 * stride {
@@ -56,13 +57,13 @@ pub extern "C" fn probe_blocks_forward16(
     preset: usize,
     out: &mut [i16],
 ) {
-    if 24 < preset {
+    if ask::limits::PRESET_MAX < preset {
         return;
     }
     if stride < 8 {
         return;
     }
-    if 7680 < stride {
+    if ask::limits::STRIDE_MAX < stride {
         return;
     }
     if rows.len() < 8 * stride {
@@ -85,7 +86,7 @@ fn put(
     v: [i16; 64],
     level: i16,
 )
-    requires { ⌜ (8 ≤ stride) × (stride ≤ 7680) × (c ≤ 7680) ⌝ }
+    requires { ⌜ (8 ≤ stride) × (stride ≤ strideMax) × (c ≤ strideMax) ⌝ }
 {
     if deep {
         if c + (7 * stride + 8) <= rows16.len() {
@@ -109,13 +110,13 @@ fn inverse(
     stride: usize,
     level: i16,
 ) {
-    if 24 < preset {
+    if ask::limits::PRESET_MAX < preset {
         return;
     }
     if stride < 8 {
         return;
     }
-    if 7680 < stride {
+    if ask::limits::STRIDE_MAX < stride {
         return;
     }
     let d = tables::decode_numbers(preset);

@@ -19,11 +19,12 @@ pub extern "C" fn probe_dct_forward(
     preset: usize,
     out: &mut [i16],
 ) {
-    if preset < 25 {
-        let k = tables::reciprocals::encode_numbers(preset);
-        let z = dct::forward::fdct_quant_zig(block(rows), add, column_shift(ten), &k);
-        put_block(out, z);
+    if ask::limits::PRESET_MAX < preset {
+        return;
     }
+    let k = tables::reciprocals::encode_numbers(preset);
+    let z = dct::forward::fdct_quant_zig(block(rows), add, column_shift(ten), &k);
+    put_block(out, z);
 }
 
 // Dequantising and inverse transform of a block into 8-bit samples from the corner of the rows on (idct8).
@@ -35,13 +36,13 @@ pub extern "C" fn probe_dct_inverse8(
     rows: &mut [u8],
     stride: usize,
 ) {
-    if 24 < preset {
+    if ask::limits::PRESET_MAX < preset {
         return;
     }
     if stride < 8 {
         return;
     }
-    if 7680 < stride {
+    if ask::limits::STRIDE_MAX < stride {
         return;
     }
     if rows.len() < 7 * stride + 8 {
@@ -61,13 +62,13 @@ pub extern "C" fn probe_dct_inverse16(
     rows: &mut [u16],
     stride: usize,
 ) {
-    if 24 < preset {
+    if ask::limits::PRESET_MAX < preset {
         return;
     }
     if stride < 8 {
         return;
     }
-    if 7680 < stride {
+    if ask::limits::STRIDE_MAX < stride {
         return;
     }
     if rows.len() < 7 * stride + 8 {
@@ -84,7 +85,7 @@ pub extern "C" fn probe_dct_flat(dc: i16, level: i16, rows: &mut [u8], stride: u
     if stride < 8 {
         return;
     }
-    if 7680 < stride {
+    if ask::limits::STRIDE_MAX < stride {
         return;
     }
     if rows.len() < 7 * stride + 8 {

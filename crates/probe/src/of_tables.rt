@@ -3,7 +3,7 @@
 // Number i of a preset's 192: the corrections, the reciprocals, the scales of its 64 places (`encode` of QuantTables).
 #[no_mangle]
 pub extern "C" fn probe_tables_encode(preset: usize, i: usize) -> u16 {
-    if 24 < preset {
+    if ask::limits::PRESET_MAX < preset {
         return 0;
     }
     let k = tables::reciprocals::encode_numbers(preset);
@@ -13,7 +13,7 @@ pub extern "C" fn probe_tables_encode(preset: usize, i: usize) -> u16 {
 // A preset's divisor at place i (`decode` of QuantTables).
 #[no_mangle]
 pub extern "C" fn probe_tables_decode(preset: usize, i: usize) -> u16 {
-    if 24 < preset {
+    if ask::limits::PRESET_MAX < preset {
         return 0;
     }
     let d = tables::decode_numbers(preset);

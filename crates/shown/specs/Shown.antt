@@ -54,8 +54,8 @@ pub record Shown : Type 0 where
 abbrev pub shownAs : ℕ → List ℕ → Shown
 shownAs n rows = record { number = n; rows = rows }
 
-abbrev pub handedOut : Answer (List ℕ) → Shown
-handedOut a = shownAs (numberIn a) (shownPart a)
+abbrev pub rowsHanded : Answer (List ℕ) → Shown
+rowsHanded a = shownAs (numberIn a) (shownPart a)
 
 -- "a second call picks the time likewise"
 unfoldable pub timeOf : ℕ → ℕ → ℕ → ℕ

@@ -1,7 +1,7 @@
 // Shown rows of 10-bit samples in 16-bit words.
 use ask::limits::ROWS;
 ghost use mathlib.Core.Path.{_≡_};
-ghost use Rattle.shown.specs.Shown.{shownOf, shownAs, handedOut};
+ghost use Rattle.shown.specs.Shown.{shownOf, shownAs, rowsHanded};
 
 // The slice's sixteen rows, out of the new picture if it was accepted, out of the held one if not; an empty part where the
 // call is refused. The number of the refusal, 0 where there is none, stands beside it.
@@ -14,7 +14,7 @@ pub fn shown_rows<'a>(
     number: &mut u32,
 ) -> &'a [u16]
     ensures { λ r. ⌜ shownAs (now (number .exit)) (now r)
-        ≡ handedOut (shownOf stride slice verdict (now (new .entry)) (now (held .entry))) ⌝ }
+        ≡ rowsHanded (shownOf stride slice verdict (now (new .entry)) (now (held .entry))) ⌝ }
 {
     let x = crate::shown_number(new.len(), held.len(), stride, slice);
     *number = x;

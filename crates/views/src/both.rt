@@ -1,9 +1,17 @@
 // The walks over all streams of a frame, DC and AC, with the views stored in a lent table.
+use ask::limits::SLICES_MAX;
 use parser::streams::Place;
 ghost use Prim.Native.Nat.{_*_, _≤_};
 ghost use lib.ListN.{length};
 ghost use Rattle.layout.specs.Geometry.{sliceCount};
-ghost use Rattle.views.specs.both.Views.{walkedSays, Tabled, Walkable, Holds};
+ghost use Rattle.views.specs.both.Views.{walkedSays, Tabled, Walkable, TableHeld};
+
+// A frame of up to so many rows has a small place to hold its table: four numbers for each of its slices.
+const SMALL_HEIGHT: usize = 1088;
+
+const SMALL: usize = 272;
+// The place of any frame.
+const LARGE: usize = 4 * SLICES_MAX;
 
 // What a walk over all streams of a frame found.
 pub enum Walked {
@@ -14,7 +22,7 @@ pub enum Walked {
 
 // Walks over all streams of a frame whose header is legal. What stands in the table is held.
 fn walk(width: usize, height: usize, frame: &[u8], table: &mut [u32], held: &[u32]) -> Walked
-    requires { ⌜ (Walkable width height (now frame) (now table)) × (Holds height (now table) (now held)) ⌝ }
+    requires { ⌜ (Walkable width height (now frame) (now table)) × (TableHeld height (now table) (now held)) ⌝ }
     ensures { λ r. ⌜ Tabled width height (now (frame .entry)) (now (table .entry)) (now (table .exit)) (walkedSays height (now (frame .entry)) r) ⌝ }
 {
     let slices = layout::slice_count(height);
@@ -58,8 +66,8 @@ fn walk_whole(width: usize, height: usize, frame: &[u8], table: &mut [u32]) -> W
     requires { ⌜ (Walkable width height (now frame) (now table)) × (sliceCount height ≤ 68) × (272 ≤ length (now table)) ⌝ }
     ensures { λ r. ⌜ Tabled width height (now (frame .entry)) (now (table .entry)) (now (table .exit)) (walkedSays height (now (frame .entry)) r) ⌝ }
 {
-    let mut held = [0u32; 272];
-    crate::walk::table::copy(&mut held, table, 272);
+    let mut held = [0u32; SMALL];
+    crate::walk::table::copy(&mut held, table, SMALL);
     walk(width, height, frame, table, &held)
 }
 
@@ -67,7 +75,7 @@ fn walk_small(width: usize, height: usize, frame: &[u8], table: &mut [u32]) -> W
     requires { ⌜ (Walkable width height (now frame) (now table)) × (sliceCount height ≤ 68) ⌝ }
     ensures { λ r. ⌜ Tabled width height (now (frame .entry)) (now (table .entry)) (now (table .exit)) (walkedSays height (now (frame .entry)) r) ⌝ }
 {
-    let mut held = [0u32; 272];
+    let mut held = [0u32; SMALL];
     walk_with(width, height, frame, table, &mut held)
 }
 
@@ -75,7 +83,7 @@ fn walk_large(width: usize, height: usize, frame: &[u8], table: &mut [u32]) -> W
     requires { ⌜ Walkable width height (now frame) (now table) ⌝ }
     ensures { λ r. ⌜ Tabled width height (now (frame .entry)) (now (table .entry)) (now (table .exit)) (walkedSays height (now (frame .entry)) r) ⌝ }
 {
-    let mut held = [0u32; 1080];
+    let mut held = [0u32; LARGE];
     walk_with(width, height, frame, table, &mut held)
 }
 
@@ -85,8 +93,8 @@ pub fn walk_any(width: usize, height: usize, frame: &[u8], table: &mut [u32]) ->
     requires { ⌜ Walkable width height (now frame) (now table) ⌝ }
     ensures { λ r. ⌜ Tabled width height (now (frame .entry)) (now (table .entry)) (now (table .exit)) (walkedSays height (now (frame .entry)) r) ⌝ }
 {
-    if height <= 1088 {
-        if 272 <= table.len() {
+    if height <= SMALL_HEIGHT {
+        if SMALL <= table.len() {
             return walk_whole(width, height, frame, table);
         }
         return walk_small(width, height, frame, table);

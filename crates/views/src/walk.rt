@@ -13,7 +13,7 @@ ghost use Rattle.parser.specs.Frame.{nthStream};
 ghost use Rattle.views.specs.walk.Table.{viewsOf};
 ghost use Rattle.views.specs.walk.Walk.{walkLeft, Walks};
 
-// Stores the views of the n streams at p behind `from` others; the place behind them. Where one is refused, the numbers that
+// Stores the views of the n streams at p after `from` others; the place after them. Where one is refused, the numbers that
 // are held go into the places of all these views. No stream is longer than 430,080 bytes, so every offset fits.
 pub fn walk_views(
     f: &[u8],
@@ -25,7 +25,9 @@ pub fn walk_views(
     held: &[u32],
 ) -> Place
     requires { ⌜ Walks (now f) n limit p from (now table) (now held) ⌝ }
-    ensures { λ r. ⌜ (placeSays r ≡ streams n limit (now (f .entry)) p) × (now (table .exit) ≡ walkLeft (streams n limit (now (f .entry)) p) (now (table .entry)) (now (held .entry)) from n (viewsOf (λ i. nthStream i limit (now (f .entry)) p) n)) ⌝ }
+    ensures { λ r. ⌜ (placeSays r ≡ streams n limit (now (f .entry)) p)
+        × (now (table .exit) ≡ walkLeft (streams n limit (now (f .entry)) p) (now (table .entry)) (now (held .entry)) from n
+        (viewsOf (λ i. nthStream i limit (now (f .entry)) p) n)) ⌝ }
 {
     let mut at = p;
     let mut k = 0;

@@ -1,13 +1,16 @@
--- Laws of shown rows.
-use mathlib.Core.Path.{_≡_, refl}
+-- Laws of shown rows, and of the call for all streams.
+use mathlib.Core.Path.{_≡_, refl, ap, _∙_}
 use mathlib.Core.List.{List}
 use Prim.Native.Nat.{ℕ, zero, suc, _*_, _<_}
 use native.Mathlib.Omega.{arith}
 use lib.Dec.{eqb}
 use lib.ListN.{length}
-use Rattle.ask.specs.Ask.{refused, accepted, firstNo, asked, byNumber}
+use Rattle.ask.specs.Ask.{Answer, refused, accepted, firstNo, asked, byNumber}
 use Rattle.shown.specs.Shown.{shownQuestions, shownOf, shownPart, sliceRows, sliceSamples, picked, wasAccepted}
-use Rattle.vmx.specs.Frames.{ShownAt, shownAt, partOf}
+use Rattle.parser.specs.head.Header.{FrameRead}
+use Rattle.views.specs.Table.{Views, viewsAs}
+use Rattle.outs.specs.frame.Outs.{Handed, handedBy, FramePlaces, frameParts}
+use Rattle.vmx.specs.Frames.{ShownAt, shownAt, partOf, streamsAs, streamsBy}
 
 module _ (stride slice verdict new held : ℕ) where
   pub shown-refused : {n : ℕ} → n ≡ firstNo (shownQuestions stride slice new held) → 0 < n → shownAt stride slice verdict new held ≡ refused n
@@ -27,3 +30,7 @@ shown-part stride slice verdict new held = go (firstNo (shownQuestions stride sl
     go : (n : ℕ) → shownPart (byNumber n (accepted (sliceRows stride slice (picked (wasAccepted verdict) new held)))) ≡ partOf (byNumber n (accepted (record { fromNew = wasAccepted verdict; offset = slice * sliceSamples stride; size = sliceSamples stride }))) new held
     go zero = refl
     go (suc n) = refl
+
+-- what the call for all streams hands out of the header, and the table, from one answer
+pub streams-handed : {h : Handed FramePlaces} {t : List ℕ} {a : Answer FrameRead} {v : Views} (was : FramePlaces) → h ≡ handedBy a frameParts was → viewsAs a t ≡ v → streamsAs t h ≡ streamsBy v was
+streams-handed {t} was p q = ap (λ (x : Handed FramePlaces). streamsAs t x) p ∙ ap (λ (x : Views). streamsBy x was) q

@@ -2,23 +2,22 @@
 //
 // A call answers document 01's number, 0 where it is accepted, and leaves the rest of its answer in the places that its
 // caller lends for it. A refused call leaves them as they were; a refused part has offset 0 and length 0.
+use ask::limits::ROWS;
 use builder::Builder;
 use builder::Shift;
 use layout::Layout;
 ghost use mathlib.Core.Path.{_≡_};
-ghost use lib.ListN.{length};
-ghost use Rattle.ask.specs.Ask.{numberIn};
-ghost use Rattle.layout.specs.Geometry.{Geometry, layoutOf, interlaceCapable, imageRowOf, previewWidth, previewHeight};
-ghost use Rattle.parser.specs.head.Header.{FrameRead};
-ghost use Rattle.parser.specs.Frame.{parseOf, View, viewOf};
-ghost use Rattle.views.specs.both.Table.{allViews, tableLeft};
-ghost use Rattle.views.specs.Table.{tabledOf};
+ghost use Rattle.layout.specs.Geometry.{layoutOf, interlaceCapable, imageRowOf, previewWidth, previewHeight};
+ghost use Rattle.parser.specs.Frame.{parseOf, viewOf};
+ghost use Rattle.views.specs.Table.{allViewsOf};
 ghost use Rattle.tables.specs.Quality.{qualityPreset};
-ghost use Rattle.builder.specs.Build.{Built, headerOf};
+ghost use Rattle.builder.specs.Build.{headerOf};
 ghost use Rattle.builder.specs.streams.Put.{streamOf};
 ghost use Rattle.shown.specs.Shown.{timeOf};
-ghost use Rattle.outs.specs.frame.Outs.{left, isOn, flagOf, isImageRow, rowLeft};
-ghost use Rattle.vmx.specs.Frames.{stateOf, ShownAt, shownAt};
+ghost use Rattle.outs.specs.frame.Outs.{isOn, flagOf, isImageRow, rowLeft, handed, handedBy};
+ghost use Rattle.outs.specs.frame.Outs.{layoutPlaces, layoutParts, framePlaces, frameParts, viewPlaces, viewParts, noPart};
+ghost use Rattle.outs.specs.frame.Outs.{startPlaces, startParts, putPlaces, putParts};
+ghost use Rattle.vmx.specs.Frames.{stateOf, shownAt, shownPlaces, shownParts, noRowsShown, streamsAs, streamsBy};
 
 // The geometry of a frame size: strides in samples, stream limits in bytes.
 #[no_mangle]
@@ -32,7 +31,12 @@ pub extern "C" fn vmx_layout(
     max_dc_len: &mut usize,
     max_ac_len: &mut usize,
 ) -> u32
-    ensures { λ r. ⌜ (r ≡ numberIn (layoutOf width height)) × (now («aligned_height» .exit) ≡ left (layoutOf width height) (now («aligned_height» .entry)) (λ (g : Geometry). g .alignedHeight)) × (now (slices .exit) ≡ left (layoutOf width height) (now (slices .entry)) (λ (g : Geometry). g .slices)) × (now (luma .exit) ≡ left (layoutOf width height) (now (luma .entry)) (λ (g : Geometry). g .luma)) × (now (chroma .exit) ≡ left (layoutOf width height) (now (chroma .entry)) (λ (g : Geometry). g .chroma)) × (now («max_dc_len» .exit) ≡ left (layoutOf width height) (now («max_dc_len» .entry)) (λ (g : Geometry). g .maxDcLen)) × (now («max_ac_len» .exit) ≡ left (layoutOf width height) (now («max_ac_len» .entry)) (λ (g : Geometry). g .maxAcLen)) ⌝ }
+    ensures { λ r. ⌜ handed r
+        (layoutPlaces (now («aligned_height» .exit)) (now (slices .exit)) (now (luma .exit)) (now (chroma .exit))
+        (now («max_dc_len» .exit)) (now («max_ac_len» .exit)))
+        ≡ handedBy (layoutOf width height) layoutParts
+        (layoutPlaces (now («aligned_height» .entry)) (now (slices .entry)) (now (luma .entry)) (now (chroma .entry))
+        (now («max_dc_len» .entry)) (now («max_ac_len» .entry))) ⌝ }
 {
     let r = Layout::new(width, height);
     outs::frame::layout_out(
@@ -57,7 +61,8 @@ pub extern "C" fn vmx_interlace_capable(height: usize) -> u32
 // Whether a coded row is a row of the image (1) or padding (0), and which one; of padding nothing is said.
 #[no_mangle]
 pub extern "C" fn vmx_image_row(height: usize, r: usize, interlaced: u32, row: &mut usize) -> u32
-    ensures { λ there. ⌜ (there ≡ flagOf (isImageRow (imageRowOf height r (isOn interlaced)))) × (now (row .exit) ≡ rowLeft (imageRowOf height r (isOn interlaced)) (now (row .entry))) ⌝ }
+    ensures { λ there. ⌜ (there ≡ flagOf (isImageRow (imageRowOf height r (isOn interlaced))))
+        × (now (row .exit) ≡ rowLeft (imageRowOf height r (isOn interlaced)) (now (row .entry))) ⌝ }
 {
     let a = layout::image_row(height, r, 0 < interlaced);
     outs::frame::row_out(a, row)
@@ -99,7 +104,10 @@ pub extern "C" fn vmx_parse(
     header_len: &mut usize,
     ac: &mut u32,
 ) -> u32
-    ensures { λ r. ⌜ (r ≡ numberIn (parseOf width height (now (frame .entry)))) × (now (interlaced .exit) ≡ left (parseOf width height (now (frame .entry))) (now (interlaced .entry)) (λ (f : FrameRead). flagOf (f .interlaced))) × (now (quality .exit) ≡ left (parseOf width height (now (frame .entry))) (now (quality .entry)) (λ (f : FrameRead). f .quality)) × (now («dc_shift» .exit) ≡ left (parseOf width height (now (frame .entry))) (now («dc_shift» .entry)) (λ (f : FrameRead). f .dcShift)) × (now («header_len» .exit) ≡ left (parseOf width height (now (frame .entry))) (now («header_len» .entry)) (λ (f : FrameRead). f .headerLen)) × (now (ac .exit) ≡ left (parseOf width height (now (frame .entry))) (now (ac .entry)) (λ (f : FrameRead). flagOf (f .acThere))) ⌝ }
+    ensures { λ r. ⌜ handed r
+        (framePlaces (now (interlaced .exit)) (now (quality .exit)) (now («dc_shift» .exit)) (now («header_len» .exit)) (now (ac .exit)))
+        ≡ handedBy (parseOf width height (now (frame .entry))) frameParts
+        (framePlaces (now (interlaced .entry)) (now (quality .entry)) (now («dc_shift» .entry)) (now («header_len» .entry)) (now (ac .entry))) ⌝ }
 {
     let r = parser::parse(width, height, frame);
     outs::frame::frame_out(r, interlaced, quality, dc_shift, header_len, ac)
@@ -119,7 +127,10 @@ pub extern "C" fn vmx_streams(
     header_len: &mut usize,
     ac: &mut u32,
 ) -> u32
-    ensures { λ r. ⌜ (r ≡ numberIn (tabledOf width height (now (frame .entry)) (length (now (views .entry))))) × (now (views .exit) ≡ tableLeft (tabledOf width height (now (frame .entry)) (length (now (views .entry)))) (now (views .entry)) (allViews width height (now (frame .entry)))) × (now (interlaced .exit) ≡ left (tabledOf width height (now (frame .entry)) (length (now (views .entry)))) (now (interlaced .entry)) (λ (f : FrameRead). flagOf (f .interlaced))) × (now (quality .exit) ≡ left (tabledOf width height (now (frame .entry)) (length (now (views .entry)))) (now (quality .entry)) (λ (f : FrameRead). f .quality)) × (now («dc_shift» .exit) ≡ left (tabledOf width height (now (frame .entry)) (length (now (views .entry)))) (now («dc_shift» .entry)) (λ (f : FrameRead). f .dcShift)) × (now («header_len» .exit) ≡ left (tabledOf width height (now (frame .entry)) (length (now (views .entry)))) (now («header_len» .entry)) (λ (f : FrameRead). f .headerLen)) × (now (ac .exit) ≡ left (tabledOf width height (now (frame .entry)) (length (now (views .entry)))) (now (ac .entry)) (λ (f : FrameRead). flagOf (f .acThere))) ⌝ }
+    ensures { λ r. ⌜ streamsAs (now (views .exit)) (handed r
+        (framePlaces (now (interlaced .exit)) (now (quality .exit)) (now («dc_shift» .exit)) (now («header_len» .exit)) (now (ac .exit))))
+        ≡ streamsBy (allViewsOf width height (now (frame .entry)) (now (views .entry)))
+        (framePlaces (now (interlaced .entry)) (now (quality .entry)) (now («dc_shift» .entry)) (now («header_len» .entry)) (now (ac .entry))) ⌝ }
 {
     let r = views::all_views(width, height, frame, views);
     outs::frame::frame_out(r, interlaced, quality, dc_shift, header_len, ac)
@@ -136,7 +147,8 @@ pub extern "C" fn vmx_stream(
     offset: &mut usize,
     len: &mut usize,
 ) -> u32
-    ensures { λ r. ⌜ (r ≡ numberIn (viewOf width height (now (frame .entry)) (isOn ac) slice)) × (now (offset .exit) ≡ left (viewOf width height (now (frame .entry)) (isOn ac) slice) 0 (λ (v : View). v .offset)) × (now (len .exit) ≡ left (viewOf width height (now (frame .entry)) (isOn ac) slice) 0 (λ (v : View). v .size)) ⌝ }
+    ensures { λ r. ⌜ handed r (viewPlaces (now (offset .exit)) (now (len .exit)))
+        ≡ handedBy (viewOf width height (now (frame .entry)) (isOn ac) slice) viewParts noPart ⌝ }
 {
     let kind = outs::frame::kind_of(ac);
     let r = parser::view_at(width, height, frame, kind, slice);
@@ -159,7 +171,12 @@ pub extern "C" fn vmx_frame_start(
     next: &mut usize,
     at: &mut usize,
 ) -> u32
-    ensures { λ r. ⌜ (r ≡ numberIn (headerOf width height (isOn interlaced) quality «dc_shift» (now (out .entry)) (now (at .entry)))) × (now (out .exit) ≡ left (headerOf width height (isOn interlaced) quality «dc_shift» (now (out .entry)) (now (at .entry))) (now (out .entry)) (λ (b : Built). b .bytes)) × (now (slices .exit) ≡ left (headerOf width height (isOn interlaced) quality «dc_shift» (now (out .entry)) (now (at .entry))) (now (slices .entry)) (λ (b : Built). b .state .slices)) × (now («max_dc_len» .exit) ≡ left (headerOf width height (isOn interlaced) quality «dc_shift» (now (out .entry)) (now (at .entry))) (now («max_dc_len» .entry)) (λ (b : Built). b .state .maxDcLen)) × (now («max_ac_len» .exit) ≡ left (headerOf width height (isOn interlaced) quality «dc_shift» (now (out .entry)) (now (at .entry))) (now («max_ac_len» .entry)) (λ (b : Built). b .state .maxAcLen)) × (now («ac_turn» .exit) ≡ left (headerOf width height (isOn interlaced) quality «dc_shift» (now (out .entry)) (now (at .entry))) (now («ac_turn» .entry)) (λ (b : Built). flagOf (b .state .acTurn))) × (now (next .exit) ≡ left (headerOf width height (isOn interlaced) quality «dc_shift» (now (out .entry)) (now (at .entry))) (now (next .entry)) (λ (b : Built). b .state .next)) × (now (at .exit) ≡ left (headerOf width height (isOn interlaced) quality «dc_shift» (now (out .entry)) (now (at .entry))) (now (at .entry)) (λ (b : Built). b .state .at)) ⌝ }
+    ensures { λ r. ⌜ handed r
+        (startPlaces (now (out .exit)) (now (slices .exit)) (now («max_dc_len» .exit)) (now («max_ac_len» .exit))
+        (now («ac_turn» .exit)) (now (next .exit)) (now (at .exit)))
+        ≡ handedBy (headerOf width height (isOn interlaced) quality «dc_shift» (now (out .entry)) (now (at .entry))) startParts
+        (startPlaces (now (out .entry)) (now (slices .entry)) (now («max_dc_len» .entry)) (now («max_ac_len» .entry))
+        (now («ac_turn» .entry)) (now (next .entry)) (now (at .entry))) ⌝ }
 {
     let start = *at;
     let r = builder::start_frame(
@@ -174,7 +191,7 @@ pub extern "C" fn vmx_frame_start(
     outs::frame::header_out(r, slices, max_dc_len, max_ac_len, ac_turn, next, at)
 }
 
-// Puts the DC stream (ac 0) or the AC stream (any other) of a slice behind what was written.
+// Puts the DC stream (ac 0) or the AC stream (any other) of a slice after what was written.
 #[no_mangle]
 pub extern "C" fn vmx_frame_put(
     slices: usize,
@@ -188,7 +205,11 @@ pub extern "C" fn vmx_frame_put(
     next: &mut usize,
     at: &mut usize,
 ) -> u32
-    ensures { λ r. ⌜ (r ≡ numberIn (streamOf (stateOf slices «max_dc_len» «max_ac_len» (now («ac_turn» .entry)) (now (next .entry)) (now (at .entry))) (isOn ac) slice (now (stream .entry)) (now (out .entry)))) × (now (out .exit) ≡ left (streamOf (stateOf slices «max_dc_len» «max_ac_len» (now («ac_turn» .entry)) (now (next .entry)) (now (at .entry))) (isOn ac) slice (now (stream .entry)) (now (out .entry))) (now (out .entry)) (λ (b : Built). b .bytes)) × (now («ac_turn» .exit) ≡ left (streamOf (stateOf slices «max_dc_len» «max_ac_len» (now («ac_turn» .entry)) (now (next .entry)) (now (at .entry))) (isOn ac) slice (now (stream .entry)) (now (out .entry))) (now («ac_turn» .entry)) (λ (b : Built). flagOf (b .state .acTurn))) × (now (next .exit) ≡ left (streamOf (stateOf slices «max_dc_len» «max_ac_len» (now («ac_turn» .entry)) (now (next .entry)) (now (at .entry))) (isOn ac) slice (now (stream .entry)) (now (out .entry))) (now (next .entry)) (λ (b : Built). b .state .next)) × (now (at .exit) ≡ left (streamOf (stateOf slices «max_dc_len» «max_ac_len» (now («ac_turn» .entry)) (now (next .entry)) (now (at .entry))) (isOn ac) slice (now (stream .entry)) (now (out .entry))) (now (at .entry)) (λ (b : Built). b .state .at)) ⌝ }
+    ensures { λ r. ⌜ handed r
+        (putPlaces (now (out .exit)) (now («ac_turn» .exit)) (now (next .exit)) (now (at .exit)))
+        ≡ handedBy (streamOf (stateOf slices «max_dc_len» «max_ac_len» (now («ac_turn» .entry)) (now (next .entry)) (now (at .entry)))
+        (isOn ac) slice (now (stream .entry)) (now (out .entry))) putParts
+        (putPlaces (now (out .entry)) (now («ac_turn» .entry)) (now (next .entry)) (now (at .entry))) ⌝ }
 {
     let kind = outs::frame::kind_of(ac);
     let turn = 0 < *ac_turn;
@@ -218,7 +239,8 @@ pub extern "C" fn vmx_shown_rows(
     offset: &mut usize,
     len: &mut usize,
 ) -> u32
-    ensures { λ r. ⌜ (r ≡ numberIn (shownAt stride slice verdict new held)) × (now («from_new» .exit) ≡ left (shownAt stride slice verdict new held) 0 (λ (s : ShownAt). flagOf (s .fromNew))) × (now (offset .exit) ≡ left (shownAt stride slice verdict new held) 0 (λ (s : ShownAt). s .offset)) × (now (len .exit) ≡ left (shownAt stride slice verdict new held) 0 (λ (s : ShownAt). s .size)) ⌝ }
+    ensures { λ r. ⌜ handed r (shownPlaces (now («from_new» .exit)) (now (offset .exit)) (now (len .exit)))
+        ≡ handedBy (shownAt stride slice verdict new held) shownParts noRowsShown ⌝ }
 {
     let x = shown::shown_number(new, held, stride, slice);
     if 0 < x {
@@ -227,7 +249,7 @@ pub extern "C" fn vmx_shown_rows(
         *len = 0;
         return x;
     }
-    let n = 16 * stride;
+    let n = ROWS * stride;
     *from_new = outs::frame::from_new(verdict);
     *offset = slice * n;
     *len = n;

@@ -62,7 +62,7 @@ unfolding readBlocks
 none-left s p r = (refl, refl)
 
 -- the answer of a read-through
-pub end-bad : (x : Blocks) → blockEnds x ≡ badEnds → refused 8 ≡ acEnd x
+pub end-bad : (x : Blocks) → blockEnds x ≡ badEnds → refused noCode ≡ acEnd x
 end-bad badBlocks e = refl
 end-bad (blocks bs q r) e = absurd (never (sym e))
 
@@ -81,7 +81,7 @@ pub bad-end : (x : Blocks) {n : ℕ} → refused n ≡ acEnd x → goodEnds (blo
 bad-end badBlocks e = refl
 bad-end (blocks bs q r) e = absurd (let z : _≡_ {A = ℕ} 0 1 = cc in omega arith)
 
-pub not-good : (x : Blocks) → goodEnds (blockEnds x) ≡ false → refused 8 ≡ acEnd x
+pub not-good : (x : Blocks) → goodEnds (blockEnds x) ≡ false → refused noCode ≡ acEnd x
 not-good badBlocks e = refl
 not-good (blocks bs q r) e = absurd (let z : _≡_ {A = ℕ} 0 1 = cc in omega arith)
 

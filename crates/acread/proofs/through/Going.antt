@@ -12,7 +12,7 @@ use Rattle.bits.proofs.LayLaw.{lay-none, lay-set, lay-lay}
 use Rattle.bitreader.specs.Cursor.{At}
 use Rattle.bitreader.specs.declared.AcCursor.{AcCursor}
 use Rattle.calls.specs.ReadPlane.{readPlaces, readBlocks}
-use Rattle.acread.specs.Block.{Ends, badEnds, ends, endsOf, endSays, BlockEnded}
+use Rattle.acread.specs.Block.{Ends, badEnds, ends, endsOf, BlockEnded, blockSays}
 use Rattle.acread.specs.declared.BlockEnd.{BlockEnd}
 use Rattle.acread.specs.declared.BlockEnd.the-variants as block
 use Rattle.acread.specs.Block.{flatByte}
@@ -40,7 +40,7 @@ going-left {s} {p} {n} {c} {pending} m e i = subst (λ (x : ℕ). Going s p n c 
 
 module _ (s : List ℕ) (p n : ℕ) (c : AcCursor) (pending m : ℕ) (i : Going s p n c pending (suc m)) (e : BlockEnd) (b : BlockEnded s (c .pos) pending e) where
   ends-at : (d : AcCursor) (k : ℕ) → e ≡ block.At d k → endsOf (readPlaces 64 (bitAt s) (c .pos) pending) ≡ ends (d .pos) k
-  ends-at d k f = sym (b .answer) ∙ ap endSays f
+  ends-at d k f = sym (b .answer) ∙ ap blockSays f
 
   pub going-next : (d : AcCursor) (k : ℕ) → e ≡ block.At d k → Going s p n d k m
   going-next d k f =
@@ -53,7 +53,7 @@ module _ (s : List ℕ) (p n : ℕ) (c : AcCursor) (pending m : ℕ) (i : Going 
       }
 
   pub going-bad : e ≡ block.Bad → blockEnds (readBlocks n (bitAt s) p 0) ≡ badEnds
-  going-bad f = i .same ∙ block-bad (bitAt s) m (c .pos) pending (sym (b .answer) ∙ ap endSays f)
+  going-bad f = i .same ∙ block-bad (bitAt s) m (c .pos) pending (sym (b .answer) ∙ ap blockSays f)
 
   -- one byte stored at j
   pub stored : (d : AcCursor) (k : ℕ) → e ≡ block.At d k → goodEnds (blockEnds (readBlocks n (bitAt s) p 0)) ≡ true → (l : List ℕ) (j : ℕ) {v : ℕ} → j < length l → v ≡ flatByte pending

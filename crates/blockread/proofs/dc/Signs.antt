@@ -8,7 +8,7 @@ use mir.Val.{ofZ, SFits}
 use Rattle.scalar.specs.Scalar.{sllOf, modZ}
 use Rattle.bits.specs.Signed.{signedOf}
 use Rattle.calls.specs.ReadPlane.{settle}
-use Rattle.blockread.specs.dc.Steps.{stepOf}
+use Rattle.acread.specs.through.Codes.{stepOf}
 
 pub settle-step : (h n shift : ℕ) (here : ℤ) → h ≡ 0 → settle shift (stepOf h n) here ≡ sllOf (signedOf n) shift
 settle-step zero n shift here e = refl

@@ -9,11 +9,11 @@ use mir.Val.{SFits}
 use Rattle.scalar.specs.Scalar.{addOf}
 use Rattle.scalar.proofs.Laws.{back, lane2}
 use Rattle.calls.specs.ReadPlane.{settle}
-use Rattle.blockread.specs.dc.Steps.{stepOf}
 use Rattle.blockread.proofs.Split.{block-next}
 use Rattle.blockread.proofs.Good.{first-steps, first-places}
 use Rattle.blockread.proofs.next_block.Statement.{statement}
 use Rattle.blockread.proofs.next_block.Tie as tie
+use Rattle.acread.specs.through.Codes.{stepOf}
 
 read-block-requires : tie.Need-read-block-requires
 read-block-requires c κs =

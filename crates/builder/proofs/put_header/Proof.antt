@@ -10,7 +10,7 @@ use lib.ListN.{length, take, drop, length-set}
 use lib.Dec.{leb}
 use Rattle.bits.specs.Lay.{lay}
 use Rattle.bits.proofs.LayLaw.{lay-lay, lay-length}
-use Rattle.builder.specs.Build.{headerLength, headerBytes, formatByte}
+use Rattle.builder.specs.Build.{headerSize, headerBytes, formatByte}
 use Rattle.builder.proofs.Laws.{five, short-header, long-header, header-room3}
 use Rattle.builder.proofs.put_header.Statement.{statement}
 use Rattle.builder.proofs.put_header.Tie as tie

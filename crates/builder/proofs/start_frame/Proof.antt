@@ -10,7 +10,7 @@ use Rattle.ask.specs.Ask.{accepted, firstNo}
 use Rattle.bits.specs.Lay.{lay}
 use Rattle.bits.proofs.LayLaw.{lay-length}
 use Rattle.layout.specs.Views.{isAc}
-use Rattle.builder.specs.Build.{Build, Built, headerLength, headerBytes, started, headerQuestions}
+use Rattle.builder.specs.Build.{Build, Built, headerSize, headerBytes, started, startQuestions}
 use Rattle.builder.specs.Views.{builderSays, shiftSays}
 use Rattle.builder.proofs.Laws.{starts, Starts, starts-at, header-no, header-yes, frame-built}
 use Rattle.builder.proofs.start_frame.Statement.{statement}
@@ -22,7 +22,7 @@ returns c =
     let s = h .before in
     let a = s .before .before .args in (
       header-no (a .width) (a .height) (a .interlaced) (a .quality) (shiftSays (a .shift)) (a .out .now) (a .at)
-          (h .header-number .ensures ∙ ap (λ x. firstNo (headerQuestions (a .width) (a .height) x (length (a .out .now)) (a .at))) (s .shift-of .ensures)) (c .if1 .taken),
+          (h .start-number .ensures ∙ ap (λ x. firstNo (startQuestions (a .width) (a .height) x (length (a .out .now)) (a .at))) (s .shift-of .ensures)) (c .if1 .taken),
       refl,
     )
 
@@ -32,8 +32,8 @@ add-end c =
     let h = e .before in
     let s = h .before in
     let a = s .before .before .args in
-    let g = starts-at (a .width) (a .height) (length (a .out .now)) (a .at) (s .shift-of .ensures) (h .header-number .ensures) (e .if1 .left) in
-    let r : c .header-length .result ≡ headerLength (s .shift-of .result) = c .header-length .ensures .0 in
+    let g = starts-at (a .width) (a .height) (length (a .out .now)) (a .at) (s .shift-of .ensures) (h .start-number .ensures) (e .if1 .left) in
+    let r : c .header-size .result ≡ headerSize (s .shift-of .result) = c .header-size .ensures .0 in
     omega (arith, g .room, r, s .before .before .good .1 .1 .1 .1 .1 .0)
 
 slice-count-requires : tie.Need-slice-count-requires
@@ -42,7 +42,7 @@ slice-count-requires c κs =
     let h = e .before in
     let s = h .before in
     let a = s .before .before .args in
-    let g = starts-at (a .width) (a .height) (length (a .out .now)) (a .at) (s .shift-of .ensures) (h .header-number .ensures) (e .if1 .left) in
+    let g = starts-at (a .width) (a .height) (length (a .out .now)) (a .at) (s .shift-of .ensures) (h .start-number .ensures) (e .if1 .left) in
     g .high
 
 max-dc-len-requires : tie.Need-max-dc-len-requires
@@ -51,7 +51,7 @@ max-dc-len-requires c κs =
     let h = e .before in
     let s = h .before in
     let a = s .before .before .args in
-    let g = starts-at (a .width) (a .height) (length (a .out .now)) (a .at) (s .shift-of .ensures) (h .header-number .ensures) (e .if1 .left) in
+    let g = starts-at (a .width) (a .height) (length (a .out .now)) (a .at) (s .shift-of .ensures) (h .start-number .ensures) (e .if1 .left) in
     g .wide
 
 max-ac-len-requires : tie.Need-max-ac-len-requires
@@ -60,7 +60,7 @@ max-ac-len-requires c κs =
     let h = e .before in
     let s = h .before in
     let a = s .before .before .args in
-    let g = starts-at (a .width) (a .height) (length (a .out .now)) (a .at) (s .shift-of .ensures) (h .header-number .ensures) (e .if1 .left) in
+    let g = starts-at (a .width) (a .height) (length (a .out .now)) (a .at) (s .shift-of .ensures) (h .start-number .ensures) (e .if1 .left) in
     g .wide
 
 put-header-requires : tie.Need-put-header-requires
@@ -69,7 +69,7 @@ put-header-requires c κs =
     let h = e .before in
     let s = h .before in
     let a = s .before .before .args in
-    let g = starts-at (a .width) (a .height) (length (a .out .now)) (a .at) (s .shift-of .ensures) (h .header-number .ensures) (e .if1 .left) in
+    let g = starts-at (a .width) (a .height) (length (a .out .now)) (a .at) (s .shift-of .ensures) (h .start-number .ensures) (e .if1 .left) in
     (omega (arith, g .room), g .small)
 
 returns-2 : tie.Need-returns-2
@@ -83,11 +83,11 @@ returns-2 c =
     let h = e .before in
     let s = h .before in
     let a = s .before .before .args in
-    let n : h .header-number .result ≡ 0 = omega (arith, e .if1 .left) in
+    let n : h .start-number .result ≡ 0 = omega (arith, e .if1 .left) in
     header-yes (a .width) (a .height) (a .interlaced) (a .quality) (shiftSays (a .shift)) (a .out .now) (a .at)
-    (sym (h .header-number .ensures ∙ ap (λ m. firstNo (headerQuestions (a .width) (a .height) m (length (a .out .now)) (a .at))) (s .shift-of .ensures)) ∙ n)
+    (sym (h .start-number .ensures ∙ ap (λ m. firstNo (startQuestions (a .width) (a .height) m (length (a .out .now)) (a .at))) (s .shift-of .ensures)) ∙ n)
     ∙ frame-built (a .width) (a .height) (a .interlaced) (a .quality) (a .out .now) (a .at) (s .shift-of .ensures) (x .slice-count .ensures) (y .max-dc-len .ensures) (z .max-ac-len .ensures)
-    (k .header-length .ensures .0) (p .put-header .ensures)
+    (k .header-size .ensures .0) (p .put-header .ensures)
 
 pub start-frame-spec : {M : Type 1} → statement M
 start-frame-spec =

@@ -7,7 +7,7 @@ use lib.ListN.{length}
 use Rattle.bits.specs.Lay.{lay}
 use Rattle.ask.specs.Ask.{Answer, accepted, Question, ask, asked}
 use Rattle.ask.specs.Numbers.{noLimit, noTurn}
-use Rattle.builder.specs.Build.{Build, Built, roomQuestion, headerBytes, countByte}
+use Rattle.builder.specs.Build.{Build, Built, roomToWrite, headerBytes, countByte}
 
 -- a stream after its 32-bit length, low byte first
 abbrev pub lengthWord : ℕ → List ℕ
@@ -30,8 +30,8 @@ abbrev pub inTurn : Bool → ℕ → Build → Bool
 inTurn ac slice b = ltb slice (b .slices) && (same ac (b .acTurn) && eqb slice (b .next))
 
 -- after the last DC stream the AC streams have their turn; after the last AC stream nobody has
-abbrev pub lastOf : Build → Bool
-lastOf b = eqb (b .next + 1) (b .slices)
+abbrev pub isLastSlice : Build → Bool
+isLastSlice b = eqb (b .next + 1) (b .slices)
 
 abbrev pub nextTurn : Bool → Bool → Bool
 nextTurn acTurn true = true
@@ -48,15 +48,15 @@ afterStream b at =
       slices = b .slices;
       maxDcLen = b .maxDcLen;
       maxAcLen = b .maxAcLen;
-      acTurn = nextTurn (b .acTurn) (lastOf b);
-      next = nextSlice (b .acTurn) (lastOf b) (b .next);
+      acTurn = nextTurn (b .acTurn) (isLastSlice b);
+      next = nextSlice (b .acTurn) (isLastSlice b) (b .next);
       at = at;
     }
 
 -- a stream of n bytes: questions 6, 13, 14
 unfoldable pub streamQuestions : Build → Bool → ℕ → ℕ → ℕ → List Question
 streamQuestions b ac slice n len =
-    roomQuestion len (b .at) (4 + n) ∷ ask (leb n (limitOf ac b)) noLimit ∷ ask (inTurn ac slice b) noTurn ∷ []
+    roomToWrite len (b .at) (4 + n) ∷ ask (leb n (limitOf ac b)) noLimit ∷ ask (inTurn ac slice b) noTurn ∷ []
 
 unfoldable pub streamOf : Build → Bool → ℕ → List ℕ → List ℕ → Answer Built
 streamOf b ac slice s out =

@@ -9,27 +9,27 @@ use Rattle.judge.proofs.Planes.{plane-good, both-streams, dc-bad}
 use Rattle.judge.proofs.plane.Statement.{statement}
 use Rattle.judge.proofs.plane.Tie as tie
 
-plane-good-requires : tie.Need-plane-good-requires
-plane-good-requires c κs =
+dc-good-requires : tie.Need-dc-good-requires
+dc-good-requires c κs =
     let s = c .before .before in
     (omega (arith, s .pre .0), s .pre .2)
 
-plane-good-requires-2 : tie.Need-plane-good-requires-2
-plane-good-requires-2 c κs =
+ac-good-requires : tie.Need-ac-good-requires
+ac-good-requires c κs =
     let s = c .before .before .before .before in
     (omega (arith, s .pre .1), s .pre .2)
 
 returns : tie.Need-returns
 returns c = λ shift.
     let a = c .before .before .before .before .before .args in
-    both-streams (sym (c .before .before .plane-good .ensures) ∙ c .before .if1 .taken) (c .plane-good2 .ensures)
-    ∙ sym (plane-good shift (2 * a .columns) (a .dc .now) (a .ac .now) (a .d) (a .a))
+    both-streams (sym (c .before .before .dc-good .ensures) ∙ c .before .if1 .taken) (c .ac-good .ensures)
+    ∙ sym (plane-good shift (2 * a .columns) (a .dc .now) (a .ac .now) (a .at .dc) (a .at .ac))
 
 returns-2 : tie.Need-returns-2
 returns-2 c = λ shift.
     let a = c .before .before .before .before .args in
-    dc-bad (goodEnds (blockEnds (readBlocks (2 * a .columns) (bitAt (a .ac .now)) (8 * a .a) 0))) (sym (c .before .plane-good .ensures) ∙ c .if1 .left)
-    ∙ sym (plane-good shift (2 * a .columns) (a .dc .now) (a .ac .now) (a .d) (a .a))
+    dc-bad (goodEnds (blockEnds (readBlocks (2 * a .columns) (bitAt (a .ac .now)) (8 * a .at .ac) 0))) (sym (c .before .dc-good .ensures) ∙ c .if1 .left)
+    ∙ sym (plane-good shift (2 * a .columns) (a .dc .now) (a .ac .now) (a .at .dc) (a .at .ac))
 
 pub plane-spec : {M : Type 1} → statement M
-plane-spec = tie.close (tie.spec plane-good-requires plane-good-requires-2 returns returns-2)
+plane-spec = tie.close (tie.spec dc-good-requires ac-good-requires returns returns-2)

@@ -5,6 +5,7 @@ use mathlib.Core.List.{List, [], _∷_}
 use Prim.Native.Nat.{ℕ, zero, suc, _≤_, _<_}
 use native.Mathlib.Omega.{arith}
 use Rattle.ask.specs.Ask.{firstNo}
+use Rattle.ask.specs.Numbers.{noCode}
 use Rattle.calls.specs.Arguments.{Call, settingsOf, planesLent, planesOf, PerStream, Buffers, lengthsOf}
 use Rattle.calls.specs.ReadPlane.{BlockRead}
 use Rattle.calls.specs.Questions.{readingQuestions}
@@ -33,12 +34,12 @@ module _ (c : Call) (b : Buffers) (at : PerStream) where
   unfolding decode
   number-no e h = no number got e h
 
-  bad : (m : ℕ) (r : PlanesRead) → m ≡ 0 → goodPlanes r ≡ false → 8 ≡ decodedBy m c at r .number
+  bad : (m : ℕ) (r : PlanesRead) → m ≡ 0 → goodPlanes r ≡ false → noCode ≡ decodedBy m c at r .number
   bad (suc m) r e g = absurd (omega arith)
   bad zero badPlanes e g = refl
   bad zero (planesRead bs end) e g = absurd (let z : _≡_ {A = ℕ} 0 1 = cc in omega arith)
 
-  pub number-bad : {n : ℕ} → n ≡ number → n ≡ 0 → goodPlanes got ≡ false → 8 ≡ decode c b at .number
+  pub number-bad : {n : ℕ} → n ≡ number → n ≡ 0 → goodPlanes got ≡ false → noCode ≡ decode c b at .number
   unfolding decode
   number-bad e z g = bad number got (sym e ∙ z) g
 
@@ -63,7 +64,7 @@ module _ (c : Call) (b : Buffers) (at : PerStream) where
 
   passed-by : (m : ℕ) (r : PlanesRead) → 0 ≡ decodedBy m c at r .number → (m ≡ 0) × (goodPlanes r ≡ true)
   passed-by (suc m) r e = absurd (omega arith)
-  passed-by zero badPlanes e = absurd (let z : _≡_ {A = ℕ} 0 8 = e in omega arith)
+  passed-by zero badPlanes e = absurd (let z : _≡_ {A = ℕ} 0 noCode = e in omega arith)
   passed-by zero (planesRead bs end) e = (refl, refl)
 
   pub passed : {n : ℕ} → n ≡ decode c b at .number → n ≡ 0 → Passed c b at

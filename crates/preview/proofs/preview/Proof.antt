@@ -14,16 +14,16 @@ start c = c .before .before .before .before .before
 
 -- no question was answered "no"
 none : (c : tie.Else1)
-    → let a = start c .args in firstNo (previewQuestions (a .shift) (a .place) (a .stride) (a .upper .now) (a .lower .now) (length (a .dc .now)) (a .at)) ≡ 0
+    → let a = start c .args in firstNo (previewQuestions (a .shift) (a .h .place) (a .h .stride) (a .upper .now) (a .lower .now) (length (a .dc .now)) (a .at)) ≡ 0
 none c =
     let a = start c .args in
     let z : c .before .preview-number .result ≡ 0 = omega (arith, c .if1 .left) in
     sym (c .before .preview-number .ensures (a .upper .now) (a .lower .now) refl refl) ∙ z
 
-legal : (c : tie.Else1) → let a = start c .args in Yes (a .shift) (a .stride) (a .upper .now) (a .lower .now) (a .at)
+legal : (c : tie.Else1) → let a = start c .args in Yes (a .shift) (a .h .stride) (a .upper .now) (a .lower .now) (a .at)
 legal c =
     let a = start c .args in
-    yes (a .shift) (a .place) (a .stride) (a .upper .now) (a .lower .now) (length (a .dc .now)) (a .at) (none c)
+    yes (a .shift) (a .h .place) (a .h .stride) (a .upper .now) (a .lower .now) (length (a .dc .now)) (a .at) (none c)
 
 preview-number-requires : tie.Need-preview-number-requires
 preview-number-requires c κs = search needs
@@ -31,18 +31,18 @@ preview-number-requires c κs = search needs
 returns : tie.Need-returns
 returns c =
     let a = c .before .before .before .before .before .args in
-    answer-no (a .shift) (a .place) (a .stride) (a .upper .now) (a .lower .now) (a .dc .now) (a .at) (c .before .preview-number .ensures (a .upper .now) (a .lower .now) refl refl) (c .if1 .taken)
+    answer-no (a .shift) (a .h .place) (a .h .stride) (a .upper .now) (a .lower .now) (a .dc .now) (a .at) (c .before .preview-number .ensures (a .upper .now) (a .lower .now) refl refl) (c .if1 .taken)
 
-plane-good-requires : tie.Need-plane-good-requires
-plane-good-requires c κs =
-    let k = legal c in
+dc-good-requires : tie.Need-dc-good-requires
+dc-good-requires c κs =
+    let k = legal (c .before) in
     (omega (arith, k .start), omega (arith, k .wide))
 
 store-preview-requires : tie.Need-store-preview-requires
 store-preview-requires c κs =
     let t = c .before .before in
-    let k = legal (t .before .before) in
-    (omega (arith, k .few), omega (arith, k .wide), k .above, k .below, k .start, sym (t .before .plane-good .ensures) ∙ t .if2 .taken)
+    let k = legal (t .before .before .before) in
+    (omega (arith, k .few), omega (arith, k .wide), k .above, k .below, k .start, sym (t .before .dc-good .ensures) ∙ t .if2 .taken)
 
 same-length : tie.Need-same-length
 same-length c = search needs
@@ -53,15 +53,15 @@ same-length-2 c = search needs
 returns-2 : tie.Need-returns-2
 returns-2 c =
     let p = c .before .before .before .before in
-    let n = p .before .before .before .before .before in
+    let n = p .before .before .before .before .before .before in
     let a = start n .args in
-    answer-end (a .shift) (a .place) (a .stride) (a .upper .now) (a .lower .now) (a .dc .now) (a .at) (none n) (p .store-preview .ensures)
+    answer-end (a .shift) (a .h .place) (a .h .stride) (a .upper .now) (a .lower .now) (a .dc .now) (a .at) (none n) (p .store-preview .ensures)
 
 returns-3 : tie.Need-returns-3
 returns-3 c =
-    let n = c .before .before in
+    let n = c .before .before .before in
     let a = start n .args in
-    answer-bad (a .shift) (a .place) (a .stride) (a .upper .now) (a .lower .now) (a .dc .now) (a .at) (none n) (sym (c .before .plane-good .ensures) ∙ c .if2 .left)
+    answer-bad (a .shift) (a .h .place) (a .h .stride) (a .upper .now) (a .lower .now) (a .dc .now) (a .at) (none n) (sym (c .before .dc-good .ensures) ∙ c .if2 .left)
 
 pub preview-spec : {M : Type 1} → statement M
 preview-spec =
@@ -69,7 +69,7 @@ preview-spec =
     (tie.spec
     preview-number-requires
     returns
-    plane-good-requires
+    dc-good-requires
     store-preview-requires
     same-length
     same-length-2

@@ -1,4 +1,4 @@
--- The loops over a plane's DC codes: what is still to be read from here gives what the whole gives.
+-- The loop over a row of blocks: what is still to be read from here gives what the whole gives.
 use mathlib.Core.Path.{_≡_, refl, sym, ap, ap₂, subst, _∙_}
 use mathlib.Core.Bool.{true}
 use mathlib.Core.List.{List, [], _∷_, _++_, append-assoc}
@@ -18,37 +18,12 @@ use Rattle.bitreader.specs.Cursor.{At, NextDc}
 use Rattle.bitreader.specs.declared.AcCursor.{AcCursor}
 use Rattle.bitreader.specs.declared.Got.{Got}
 use Rattle.calls.specs.ReadPlane.{readSteps, settle}
-use Rattle.blockread.specs.dc.Steps.{stepOf, byteOf, goodSteps, bytesFrom, dcBit}
+use Rattle.blockread.specs.dc.Steps.{byteOf, bytesFrom}
 use Rattle.preview.specs.row.Row.{RowDone}
 use Rattle.preview.specs.declared.row.RowEnd.{RowEnd}
-use Rattle.blockread.proofs.dc.Steps.{good-by, bit-next, steps-bad, some, bytes-next, none-bit}
-
--- the cursor c stands at the first of the `left` codes still to be read, of n from the bit p on
-pub record Going (s : List ℕ) (p n : ℕ) (c : AcCursor) (left : ℕ) : Type 0 where
-  pub same : dcBit (readSteps n (bitAt s) p) ≡ dcBit (readSteps left (bitAt s) (c .pos))
-  pub holds : At s c
-  pub near : c .pos + 112 * left ≤ p + 112 * n
-
-pub going-start : (s : List ℕ) (p n : ℕ) (c : AcCursor) → At s c → c .pos ≡ p → Going s p n c n
-going-start s p n c a e = record { same = ap (λ (x : ℕ). dcBit (readSteps n (bitAt s) x)) (sym e); holds = a; near = omega arith }
-
-pub going-left : {s : List ℕ} {p n : ℕ} {c : AcCursor} {left : ℕ} (m : ℕ) → left ≡ m → Going s p n c left → Going s p n c m
-going-left {s} {p} {n} {c} m e i = subst (λ (x : ℕ). Going s p n c x) e i
-
-module _ (s : List ℕ) (p n : ℕ) (c : AcCursor) (m : ℕ) (i : Going s p n c (suc m)) (g : Got) (b : NextDc s c g) where
-  pub going-next : (g .num ≡ 0 → ⊥) → Going s p n (g .c) m
-  going-next z =
-      record {
-        same = i .same ∙ bit-next (bitAt s) m (c .pos) (g .num) (g .run) (g .c .pos) (b .answer) (omega arith);
-        holds = b .next .ready;
-        near = omega (arith, b .next .near, i .near);
-      }
-
-  pub going-bad : g .num ≡ 0 → dcBit (readSteps n (bitAt s) p) ≡ refused 8
-  going-bad z = i .same ∙ ap dcBit (steps-bad (bitAt s) m (c .pos) (g .num) (g .run) (g .c .pos) (b .answer) z)
-
-pub going-over : (s : List ℕ) (p n : ℕ) (c : AcCursor) (left : ℕ) → left ≡ 0 → Going s p n c left → dcBit (readSteps n (bitAt s) p) ≡ accepted (c .pos)
-going-over s p n c left e i = i .same ∙ ap (λ (x : ℕ). dcBit (readSteps x (bitAt s) (c .pos))) e ∙ none-bit (bitAt s) (c .pos)
+use Rattle.blockread.proofs.dc.Steps.{bytes-next}
+use Rattle.acread.specs.through.Codes.{stepOf, goodSteps, dcBit}
+use Rattle.acread.proofs.through.Codes.{good-by, bit-next, steps-bad, some, none-bit}
 
 -- k of the n blocks of a row are stored
 pub record Row (s : List ℕ) (shift : ℕ) (level : ℤ) (n p : ℕ) (before : ℤ) (out : List ℕ) (c : AcCursor) (last : ℤ) (k : ℕ) (now : List ℕ) : Type 0 where

@@ -14,19 +14,12 @@ use Rattle.calls.specs.Arguments.{eight}
 use Rattle.calls.specs.ReadPlane.{DcSteps, badSteps, dcSteps, readSteps, predicted}
 use Rattle.calls.specs.Grid.{level}
 use Rattle.calls.specs.Previews.{previewByte, previewBytes}
-use Rattle.blockread.specs.dc.Steps.{byteOf, goodSteps, stepList, bytesFrom, dcBit, inBytes, dcEnd}
+use Rattle.blockread.specs.dc.Steps.{byteOf, stepList, bytesFrom}
 use Rattle.preview.specs.row.Row.{RowDone, Stored}
 use Rattle.preview.specs.declared.row.RowEnd.{RowEnd}
-use Rattle.blockread.proofs.dc.Steps.{good-by, none-bit, none-bytes}
-
--- the verdict by the answer of a read-through
-pub good-end : (x : DcSteps) {q : ℕ} → accepted q ≡ dcEnd x → goodSteps x ≡ true
-good-end badSteps e = absurd (let z : _≡_ {A = ℕ} 0 1 = cc in omega arith)
-good-end (dcSteps ts q) e = refl
-
-pub bad-end : (x : DcSteps) {n : ℕ} → refused n ≡ dcEnd x → goodSteps x ≡ false
-bad-end badSteps e = refl
-bad-end (dcSteps ts q) e = absurd (let z : _≡_ {A = ℕ} 0 1 = cc in omega arith)
+use Rattle.blockread.proofs.dc.Steps.{none-bytes}
+use Rattle.acread.specs.through.Codes.{goodSteps, dcBit, inBytes, dcEnd}
+use Rattle.acread.proofs.through.Codes.{good-by, none-bit}
 
 -- the bytes in the two forms
 byte-is : (place : ℕ) → previewByte place ≡ byteOf (level eight place)

@@ -13,8 +13,9 @@ use Rattle.bits.specs.Lay.{lay}
 use Rattle.bitreader.specs.Cursor.{At}
 use Rattle.calls.specs.ReadPlane.{DcSteps, readSteps}
 use Rattle.calls.specs.Previews.{previewBytes}
-use Rattle.blockread.specs.dc.Steps.{goodSteps, stepList, bytesFrom, dcBit, dcEnd}
+use Rattle.blockread.specs.dc.Steps.{stepList, bytesFrom}
 use Rattle.preview.specs.declared.row.RowEnd.{RowEnd}
+use Rattle.acread.specs.through.Codes.{goodSteps, dcBit, dcEnd}
 
 -- a row of n blocks at the bit p of s, behind a block whose DC was `before`, stored in `out`. However many blocks follow, their bytes
 -- and their end are those that the cursor and the DC handed back lead to, if no code is bad

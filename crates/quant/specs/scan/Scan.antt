@@ -14,10 +14,6 @@ coefficient l i = getD l i (pos 0)
 unfoldable pub scanOf : List ℤ → List ℤ
 scanOf l = tab 64 (λ i. coefficient l (zigzagAt i))
 
--- four numbers of a block, eight numbers
+-- four numbers of a block
 abbrev pub fourOf : List ℤ → (i0 i1 i2 i3 : ℕ) → List ℤ
 fourOf l i0 i1 i2 i3 = coefficient l i0 ∷ coefficient l i1 ∷ coefficient l i2 ∷ coefficient l i3 ∷ []
-
-abbrev pub eightOf : List ℤ → (i0 i1 i2 i3 i4 i5 i6 i7 : ℕ) → List ℤ
-eightOf l i0 i1 i2 i3 i4 i5 i6 i7 =
-    coefficient l i0 ∷ coefficient l i1 ∷ coefficient l i2 ∷ coefficient l i3 ∷ coefficient l i4 ∷ coefficient l i5 ∷ coefficient l i6 ∷ coefficient l i7 ∷ []

@@ -7,6 +7,8 @@ use native.Mathlib.Omega.{arith}
 use lib.ListN.{length, take, drop}
 use lib.Seq.{length-take-le, take-append-le, take-take}
 use Rattle.ask.specs.Ask.{Answer, refused, accepted, firstNo}
+use Rattle.ask.specs.Limits.{widthMax, heightMax, acReadMax, slicesMax}
+use Rattle.ask.specs.Numbers.{noTurn}
 use Rattle.bits.specs.Lay.{lay}
 use Rattle.bits.proofs.LayLaw.{lay-length, lay-lay}
 use Rattle.layout.specs.Geometry.{sliceCount, maxDcLen, maxAcLen}
@@ -21,26 +23,26 @@ use Rattle.views.specs.walk.Walk.{walkLeft, Walks}
 use Rattle.views.proofs.walk.Laws.{views-length, views-same, over, as-before}
 use Rattle.views.proofs.walk.Walk.{one-within}
 use Rattle.views.specs.both.Table.{allViews, tableLeft}
-use Rattle.views.specs.both.Views.{Holds}
+use Rattle.views.specs.both.Views.{TableHeld}
 
 -- ---- where the streams end at most
-pub streams-short : (n limit : ℕ) (f : List ℕ) (p : ℕ) {q : ℕ} → limit ≤ 430080 → streams n limit f p ≡ accepted q → q ≤ p + n * 430084
+pub streams-short : (n limit : ℕ) (f : List ℕ) (p : ℕ) {q : ℕ} → limit ≤ acReadMax → streams n limit f p ≡ accepted q → q ≤ p + n * (acReadMax + 4)
 unfolding streams
 streams-short zero limit f p {q} h e = let g : p ≡ q = cc in omega arith
 streams-short (suc n) limit f p {q} h e = by (oneStream limit f p) refl (λ s x. streams-short n limit f s h x)
   where
-    by : (a : Answer ℕ) → oneStream limit f p ≡ a → ((s : ℕ) → streams n limit f s ≡ accepted q → q ≤ s + n * 430084) → q ≤ p + suc n * 430084
+    by : (a : Answer ℕ) → oneStream limit f p ≡ a → ((s : ℕ) → streams n limit f s ≡ accepted q → q ≤ s + n * (acReadMax + 4)) → q ≤ p + suc n * (acReadMax + 4)
     by (refused m) x next = absurd (let z : _≡_ {A = ℕ} 0 1 = cc (rw x at e) in omega arith)
     by (accepted s) x next = omega (arith, next s (rw x at e), one-end limit f p x, one-within limit f p x)
 
 -- ---- small numbers
-pub dc-short : (w : ℕ) {limit : ℕ} → limit ≡ maxDcLen w → w ≤ 7680 → limit ≤ 430080
+pub dc-short : (w : ℕ) {limit : ℕ} → limit ≡ maxDcLen w → w ≤ widthMax → limit ≤ acReadMax
 dc-short w e h = omega arith
 
-pub ac-short : (w : ℕ) {limit : ℕ} → limit ≡ maxAcLen w → w ≤ 7680 → limit ≤ 430080
+pub ac-short : (w : ℕ) {limit : ℕ} → limit ≡ maxAcLen w → w ≤ widthMax → limit ≤ acReadMax
 ac-short w e h = omega arith
 
-pub few : (h : ℕ) {slices : ℕ} → slices ≡ sliceCount h → h ≤ 4320 → slices ≤ 270
+pub few : (h : ℕ) {slices : ℕ} → slices ≡ sliceCount h → h ≤ heightMax → slices ≤ slicesMax
 few h e k = omega arith
 
 -- what the walks ask
@@ -80,11 +82,11 @@ module _ (w h : ℕ) (f table held t : List ℕ) {slices limit : ℕ} (n : slice
       → t ≡ walkLeft (streams (sliceCount h) (maxAcLen w) f q) table held (sliceCount h) (sliceCount h) (viewsOf (λ i. nthStream i (maxAcLen w) f q) (sliceCount h))
   ac-left q l e = rw (n, l) at e
 
-pub none-left : (h : ℕ) (t : List ℕ) {slices : ℕ} {x : List ℕ} → slices ≡ sliceCount h → x ≡ lay t (2 * slices) (viewsOf (λ _. refused 14) slices) → x ≡ lay t (2 * sliceCount h) (viewsOf (λ _. refused 14) (sliceCount h))
+pub none-left : (h : ℕ) (t : List ℕ) {slices : ℕ} {x : List ℕ} → slices ≡ sliceCount h → x ≡ lay t (2 * slices) (viewsOf (λ _. refused noTurn) slices) → x ≡ lay t (2 * sliceCount h) (viewsOf (λ _. refused noTurn) (sliceCount h))
 none-left h t n e = rw n at e
 
 -- numbers held by copying them
-pub holding : (h : ℕ) (table place : List ℕ) {n : ℕ} {held : List ℕ} → 4 * sliceCount h ≤ n → n ≤ length place → n ≤ length table → held ≡ lay place 0 (take n table) → Holds h table held
+pub holding : (h : ℕ) (table place : List ℕ) {n : ℕ} {held : List ℕ} → 4 * sliceCount h ≤ n → n ≤ length place → n ≤ length table → held ≡ lay place 0 (take n table) → TableHeld h table held
 unfolding lay
 holding h table place {n} {held} r s u e =
     let l : length (take n table) ≡ n = length-take-le n table u in
@@ -96,7 +98,7 @@ holding h table place {n} {held} r s u e =
     }
 
 -- ---- what the walks leave
-module _ (w h : ℕ) (f : List ℕ) (yes : firstNo (headerQuestions w h f) ≡ 0) (table held : List ℕ) (r : 4 * sliceCount h ≤ length table) (kept : Holds h table held) where
+module _ (w h : ℕ) (f : List ℕ) (yes : firstNo (headerQuestions w h f) ≡ 0) (table held : List ℕ) (r : 4 * sliceCount h ≤ length table) (kept : TableHeld h table held) where
   -- a part of what is held, put back
   put-back : (m : ℕ) → m ≤ 4 * sliceCount h → lay table 0 (take m held) ≡ table
   put-back m k =
@@ -131,10 +133,10 @@ module _ (w h : ℕ) (f : List ℕ) (yes : firstNo (headerQuestions w h f) ≡ 0
         ∙ lay-lay table 0 (viewsOf v (sliceCount h)) (omega arith) (viewsOf ac (sliceCount h))
         ∙ ap₂ (λ (c d : List ℕ). lay table 0 (c ++ d)) (sym (views-same (viewOf w h f false) v (sliceCount h) a)) (sym (views-same (viewOf w h f true) ac (sliceCount h) b))
 
-    pub only-dc : {x : List ℕ} → length f ≤ q → x ≡ lay t (2 * sliceCount h) (viewsOf (λ _. refused 14) (sliceCount h)) → x ≡ tableLeft (parseOf w h f) table (allViews w h f)
+    pub only-dc : {x : List ℕ} → length f ≤ q → x ≡ lay t (2 * sliceCount h) (viewsOf (λ _. refused noTurn) (sliceCount h)) → x ≡ tableLeft (parseOf w h f) table (allViews w h f)
     only-dc l k =
         let p = dc-only w h f yes d l in
-        rw p (joined (λ _. refused 14) k (λ i b. view-yes w h f false i p b refl) (λ i b. view-unwanted w h f true i p b refl))
+        rw p (joined (λ _. refused noTurn) k (λ i b. view-yes w h f false i p b refl) (λ i b. view-unwanted w h f true i p b refl))
 
     pub both : {x : List ℕ} {p : ℕ} → q < length f → streams (sliceCount h) (maxAcLen w) f q ≡ accepted p
         → x ≡ walkLeft (streams (sliceCount h) (maxAcLen w) f q) t held (sliceCount h) (sliceCount h) (viewsOf (λ i. nthStream i (maxAcLen w) f q) (sliceCount h)) → x ≡ tableLeft (parseOf w h f) table (allViews w h f)

@@ -8,6 +8,7 @@ use lib.Dec.{leb}
 use lib.ListN.{length, take}
 use lib.Seq.{length-take-le}
 use borrow.Author.Tests.{leb-true, leb-false}
+use Rattle.ask.specs.Limits.{acReadMax}
 use Rattle.ask.specs.Ask.{Answer, refused, accepted}
 use Rattle.bits.specs.Lay.{lay}
 use Rattle.bits.proofs.LayLaw.{lay-length}
@@ -31,7 +32,7 @@ one-within limit f p {q} e = go (leb (p + 4) (length f)) refl (leb (lengthAt f p
 pub record Walking (f : List ℕ) (n limit p from : ℕ) (table t : List ℕ) (at k : ℕ) : Type 0 where
   pub turn : k ≤ n
   pub inside : at ≤ length f
-  pub small : at ≤ 5 + (from + k) * 430084
+  pub small : at ≤ 5 + (from + k) * (acReadMax + 4)
   pub so-far : streams k limit f p ≡ accepted at
   pub to-come : streams n limit f p ≡ streams (n - k) limit f at
   pub room : length t ≡ length table

@@ -29,6 +29,6 @@ pub record Walkable (w h : ℕ) (f table : List ℕ) : Type 0 where
   pub room : 4 * sliceCount h ≤ length table
 
 -- what is held: the table's numbers, up to those of the last view
-pub record Holds (h : ℕ) (table held : List ℕ) : Type 0 where
+pub record TableHeld (h : ℕ) (table held : List ℕ) : Type 0 where
   pub long : 4 * sliceCount h ≤ length held
   pub same : take (4 * sliceCount h) held ≡ take (4 * sliceCount h) table

@@ -4,6 +4,7 @@ ghost use mathlib.Core.List.{[], _∷_};
 ghost use Prim.Native.Nat.{_+_, _*_, _≤_};
 ghost use lib.ListN.{length, take};
 ghost use Rattle.ask.specs.Ask.{refused};
+ghost use Rattle.ask.specs.Numbers.{noTurn};
 ghost use Rattle.bits.specs.Lay.{lay};
 ghost use Rattle.views.specs.walk.Table.{viewsOf};
 
@@ -31,7 +32,7 @@ pub fn copy(to: &mut [u32], from: &[u32], n: usize)
 // Stores n views of streams that are not there, from i on.
 pub fn no_views(table: &mut [u32], i: usize, n: usize)
     requires { ⌜ i + 2 * n ≤ length (now table) ⌝ }
-    ensures { λ _. ⌜ now (table .exit) ≡ lay (now (table .entry)) i (viewsOf (λ _. refused 14) n) ⌝ }
+    ensures { λ _. ⌜ now (table .exit) ≡ lay (now (table .entry)) i (viewsOf (λ _. refused noTurn) n) ⌝ }
 {
     let mut k = 0;
     while k < n {

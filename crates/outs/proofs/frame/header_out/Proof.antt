@@ -1,6 +1,6 @@
 -- `outs::frame::header_out`.
 use borrow.Author.Needs.{needs}
-use mathlib.Core.Path.{_≡_, refl, sym}
+use mathlib.Core.Path.{_≡_, sym}
 use Rattle.builder.specs.declared.HeaderAnswer.the-variants as header
 use Rattle.outs.proofs.frame.Laws.{header-refused, header-started}
 use Rattle.outs.proofs.frame.header_out.Statement.{statement}
@@ -11,14 +11,14 @@ returns c out out' a h =
     let g = c .before .answer .given in
     let e : header.Refused (g .0 .0) ≡ c .before .before .before .args .answer = sym (g .1) in
     let p = header-refused e h in
-    rw (p .0) (refl, p .1, refl, refl, refl, refl, refl, refl)
+    rw (p .0, p .1)
 
 returns-2 : tie.Need-returns-2
 returns-2 c out out' a h =
     let k = c .before .before in
     let g = k .answer2 .given in
     let e : header.Started (g .0 .0) ≡ k .before .before .args .answer = sym (g .1) in
-    rw (header-started out e h) (refl, refl, refl, refl, refl, c .flag .ensures, refl, refl)
+    rw (header-started out e h, c .flag .ensures)
 
 pub header-out-spec : {M : Type 1} → statement M
 header-out-spec = tie.close (tie.spec (λ c. search needs) (λ c. search needs) (λ c κs. search needs) returns returns-2)

@@ -1,6 +1,6 @@
 -- `outs::frame::stream_out`.
 use borrow.Author.Needs.{needs}
-use mathlib.Core.Path.{_≡_, refl, sym}
+use mathlib.Core.Path.{_≡_, sym}
 use Rattle.builder.specs.declared.streams.StreamAnswer.the-variants as stream
 use Rattle.outs.proofs.frame.Laws.{stream-refused, stream-next}
 use Rattle.outs.proofs.frame.stream_out.Statement.{statement}
@@ -11,14 +11,14 @@ returns c was out out' a h =
     let g = c .before .answer .given in
     let e : stream.Refused (g .0 .0) (g .0 .1 .0) ≡ c .before .before .before .args .answer = sym (g .1) in
     let p = stream-refused e h in
-    rw (p .0) (refl, p .1, refl, refl, refl)
+    rw (p .0, p .1)
 
 returns-2 : tie.Need-returns-2
 returns-2 c was out out' a h =
     let k = c .before .before in
     let g = k .answer2 .given in
     let e : stream.Next (g .0 .0) ≡ k .before .before .args .answer = sym (g .1) in
-    rw (stream-next was out e h) (refl, refl, c .flag .ensures, refl, refl)
+    rw (stream-next was out e h, c .flag .ensures)
 
 pub stream-out-spec : {M : Type 1} → statement M
 stream-out-spec = tie.close (tie.spec (λ c. search needs) (λ c. search needs) (λ c κs. search needs) returns returns-2)

@@ -8,10 +8,10 @@ use Rattle.ask.specs.Ask.{firstNo}
 use Rattle.bits.specs.Bits.{bitAt}
 use Rattle.calls.specs.ReadPlane.{readBlocks}
 use Rattle.calls.specs.Questions.{reportQuestions}
-use Rattle.acread.proofs.through.Blocks.{not-good}
 use Rattle.preview.proofs.report.Asked.{yes, answer-no, answer-bad, answer-end}
 use Rattle.preview.proofs.report.block_report.Statement.{statement}
 use Rattle.preview.proofs.report.block_report.Tie as tie
+use Rattle.acread.proofs.through.Blocks.{not-good}
 
 -- no question was answered "no"
 none : (c : tie.Else1)
@@ -29,8 +29,8 @@ returns c =
     let a = c .before .before .before .before .args in
     answer-no (a .stride) (a .report .now) (a .ac .now) (a .at) (c .before .report-number .ensures (a .report .now) refl) (c .if1 .taken)
 
-plane-good-requires : tie.Need-plane-good-requires
-plane-good-requires c κs =
+ac-good-requires : tie.Need-ac-good-requires
+ac-good-requires c κs =
     let a = c .before .before .before .before .args in
     let k = yes (a .stride) (a .report .now) (length (a .ac .now)) (a .at) (none c) in
     (omega (arith, k .start), omega (arith, k .wide))
@@ -44,7 +44,7 @@ store-report-requires c κs =
     let n = t .before .before in
     let a = n .before .before .before .before .args in
     let k = yes (a .stride) (a .report .now) (length (a .ac .now)) (a .at) (none n) in
-    (k .start, omega (arith, k .wide), omega (arith, k .room), sym (t .before .plane-good .ensures) ∙ t .if2 .taken)
+    (k .start, omega (arith, k .wide), omega (arith, k .room), sym (t .before .ac-good .ensures) ∙ t .if2 .taken)
 
 same-length : tie.Need-same-length
 same-length c = search needs
@@ -61,7 +61,7 @@ returns-3 c =
     let n = c .before .before in
     let a = n .before .before .before .before .args in
     answer-bad (a .stride) (a .report .now) (a .ac .now) (a .at) (none n)
-    (not-good (readBlocks (2 * (a .stride / 8)) (bitAt (a .ac .now)) (8 * a .at) 0) (sym (c .before .plane-good .ensures) ∙ c .if2 .left))
+    (not-good (readBlocks (2 * (a .stride / 8)) (bitAt (a .ac .now)) (8 * a .at) 0) (sym (c .before .ac-good .ensures) ∙ c .if2 .left))
 
 pub block-report-spec : {M : Type 1} → statement M
 block-report-spec =
@@ -69,7 +69,7 @@ block-report-spec =
     (tie.spec
     report-number-requires
     returns
-    plane-good-requires
+    ac-good-requires
     mul-store-report
     store-report-requires
     same-length

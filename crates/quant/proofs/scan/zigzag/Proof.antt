@@ -1,39 +1,21 @@
+-- `quant::scan::zigzag`: sixteen times four moves.
 use mathlib.Core.Path.{refl}
-use Rattle.quant.proofs.scan.Moves.{moved}
 use borrow.Author.Needs.{needs}
+use Rattle.quant.proofs.scan.Moves.{moved}
 use Rattle.quant.proofs.scan.zigzag.Statement.{statement}
 use Rattle.quant.proofs.scan.zigzag.Tie as tie
-use Rattle.quant.proofs.scan.zigzag.Reads as reads
-use Rattle.quant.proofs.scan.zigzag.Lts as lts
-use Rattle.quant.proofs.scan.eight.Reads as eight-reads
-
-eight-requires : tie.Need-eight-requires
-eight-requires c κs = search needs
-
-eight-requires-2 : tie.Need-eight-requires-2
-eight-requires-2 c κs = search needs
-
-eight-requires-3 : tie.Need-eight-requires-3
-eight-requires-3 c κs = search needs
-
-eight-requires-4 : tie.Need-eight-requires-4
-eight-requires-4 c κs = search needs
-
-eight-requires-5 : tie.Need-eight-requires-5
-eight-requires-5 c κs = search needs
-
-eight-requires-6 : tie.Need-eight-requires-6
-eight-requires-6 c κs = search needs
-
-eight-requires-7 : tie.Need-eight-requires-7
-eight-requires-7 c κs = search needs
-
-eight-requires-8 : tie.Need-eight-requires-8
-eight-requires-8 c κs = search needs
 
 returns : tie.Need-returns
 returns c =
-    let c7 = c .before .before .before in
+    let c15 = c .before .before .before in
+    let c14 = c15 .before .before .before in
+    let c13 = c14 .before .before .before in
+    let c12 = c13 .before .before .before in
+    let c11 = c12 .before .before .before in
+    let c10 = c11 .before .before .before in
+    let c9 = c10 .before .before .before in
+    let c8 = c9 .before .before .before in
+    let c7 = c8 .before .before .before in
     let c6 = c7 .before .before .before in
     let c5 = c6 .before .before .before in
     let c4 = c5 .before .before .before in
@@ -42,18 +24,17 @@ returns c =
     let c1 = c2 .before .before .before in
     let s = c1 .before .before .before in
     moved (s .args .t1) refl
-    (c1 .eight .ensures) (c2 .eight2 .ensures) (c3 .eight3 .ensures) (c4 .eight4 .ensures) (c5 .eight5 .ensures) (c6 .eight6 .ensures) (c7 .eight7 .ensures) (c .eight8 .ensures)
+    (c1 .four .ensures) (c2 .four2 .ensures) (c3 .four3 .ensures) (c4 .four4 .ensures)
+    (c5 .four5 .ensures) (c6 .four6 .ensures) (c7 .four7 .ensures) (c8 .four8 .ensures)
+    (c9 .four9 .ensures) (c10 .four10 .ensures) (c11 .four11 .ensures) (c12 .four12 .ensures)
+    (c13 .four13 .ensures) (c14 .four14 .ensures) (c15 .four15 .ensures) (c .four16 .ensures)
 
 pub zigzag-spec : {M : Type 1} → statement M
 zigzag-spec =
     tie.close
     (tie.spec
-    eight-requires
-    eight-requires-2
-    eight-requires-3
-    eight-requires-4
-    eight-requires-5
-    eight-requires-6
-    eight-requires-7
-    eight-requires-8
+    (λ c κs. search needs) (λ c κs. search needs) (λ c κs. search needs) (λ c κs. search needs)
+    (λ c κs. search needs) (λ c κs. search needs) (λ c κs. search needs) (λ c κs. search needs)
+    (λ c κs. search needs) (λ c κs. search needs) (λ c κs. search needs) (λ c κs. search needs)
+    (λ c κs. search needs) (λ c κs. search needs) (λ c κs. search needs) (λ c κs. search needs)
     returns)

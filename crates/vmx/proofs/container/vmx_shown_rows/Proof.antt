@@ -1,6 +1,6 @@
 -- `vmx::container::vmx_shown_rows`.
 use borrow.Author.Needs.{needs}
-use mathlib.Core.Path.{_≡_, refl, sym, _∙_}
+use mathlib.Core.Path.{_≡_, sym, _∙_}
 use native.Mathlib.Omega.{arith}
 use Rattle.shown.proofs.Laws.{shows}
 use Rattle.vmx.proofs.Laws.{shown-refused, shown-there}
@@ -11,7 +11,7 @@ returns : tie.Need-returns
 returns c =
     let n = c .before in
     let a = n .before .args in
-    rw (shown-refused (a .stride) (a .slice) (a .verdict) (a .new) (a .held) (n .shown-number .ensures) (c .if1 .taken)) (refl, refl, refl, refl)
+    rw (shown-refused (a .stride) (a .slice) (a .verdict) (a .new) (a .held) (n .shown-number .ensures) (c .if1 .taken))
 
 mul-n : tie.Need-mul-n
 mul-n c =
@@ -36,8 +36,7 @@ returns-2 c =
     let n = t .before in
     let a = n .before .args in
     let z : n .shown-number .result ≡ 0 = omega (arith, t .if1 .left) in
-    rw (shown-there (a .stride) (a .slice) (a .verdict) (a .new) (a .held) (sym (n .shown-number .ensures) ∙ z))
-    (refl, c .from-new .ensures, refl, refl)
+    rw (shown-there (a .stride) (a .slice) (a .verdict) (a .new) (a .held) (sym (n .shown-number .ensures) ∙ z), c .from-new .ensures)
 
 pub vmx-shown-rows-spec : {M : Type 1} → statement M
 vmx-shown-rows-spec =

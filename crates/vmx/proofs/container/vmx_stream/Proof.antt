@@ -11,8 +11,8 @@ returns : tie.Need-returns
 returns c =
     let v = c .before .before .before in
     let a = v .before .before .before .args in
-    c .view-out .ensures (viewOf (a .width) (a .height) (a .frame .now) (isOn (a .ac)) (a .slice))
-    (v .view-at .ensures ∙ ap (λ (x : Bool). viewOf (a .width) (a .height) (a .frame .now) x (a .slice)) (v .before .kind-of .ensures))
+    let q = v .view-at .ensures ∙ ap (λ (x : Bool). viewOf (a .width) (a .height) (a .frame .now) x (a .slice)) (v .before .kind-of .ensures) in
+    rw (← q) (c .view-out .ensures)
 
 pub vmx-stream-spec : {M : Type 1} → statement M
 vmx-stream-spec = tie.close (tie.spec (λ c κs. search needs) (λ c κs. search needs) (λ c κs. search needs) returns)
