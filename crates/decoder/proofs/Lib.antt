@@ -1,2 +1,4 @@
-pub mod Planes
-pub mod Slices
+mod InTurn
+mod Passes
+mod Planes
+mod Slices

@@ -1,55 +1,38 @@
 -- A reading call on one plane: what the verdict leaves, and its answer.
-use mathlib.Core.Path.{_≡_, refl, sym, ap, _∙_}
-use mathlib.Core.Bool.{Bool, true, false}
+use mathlib.Core.Path.{_≡_, sym, ap, _∙_}
 use mathlib.Core.List.{List, [], _∷_}
-use Prim.Native.Nat.{ℕ, _≤_, _<_}
+use Prim.Native.Nat.{ℕ, _<_}
 use native.Mathlib.Omega.{arith}
-use lib.ListN.{length}
-use Rattle.calls.specs.Arguments.{Depth, PerStream, Buffers, settings, plane, positions, buffers}
-use Rattle.calls.specs.ReadPlane.{PlaneRead, badPlane, planeRead, readPlane}
-use Rattle.calls.specs.Grid.{blocksOf}
-use Rattle.slice.specs.Plane.{reconstruct}
-use Rattle.slice.specs.Calls.{PlanesRead, planesRead, byPlane, readPlanes, Decoded, rowsMade, decode, decodePlane}
-use Rattle.entropy.specs.declared.plane.Ends.{Ends}
-use Rattle.questions.proofs.of_call.Passed.{ReadingLegal, reading-legal}
-use Rattle.judge.proofs.verdict.Laws.{Passed, passed, refused-is, accepted-is}
+use Rattle.calls.specs.Arguments.{Settings, Plane, Call, onePlane, PerStream, Buffers, lengthsOf}
+use Rattle.calls.specs.ReadPlane.{PlaneRead}
+use Rattle.calls.proofs.Legal.{reading-legal}
+use Rattle.slice.specs.Calls.{planesRead, byPlane, readPlanes, rowsMade, decode}
+use Rattle.judge.proofs.verdict.Laws.{passed, refused-is, accepted-is}
 use Rattle.judge.proofs.verdict.Planes.{one-good}
-use Rattle.decplane.specs.store.Storing.{blocksGot, PlaneGood, PlaneStored}
-use Rattle.calls.specs.Views.{planeCall}
+use Rattle.decplane.specs.store.Storing.{planeIn, PlaneGood, PlaneStored}
 
-module _ (depth : Depth) (preset shift place stride : ℕ) (rows dc : List ℕ) (d : ℕ) (ac : List ℕ) (a : ℕ) where
-  abbrev numbered : ℕ → Type 0
-  numbered n = n ≡ decode (planeCall depth preset shift place stride rows) (buffers dc ac) (positions d a) .number
+module _ (σ : Settings) (p : Plane) (b : Buffers) (at : PerStream) where
+  abbrev call : Call
+  call = onePlane σ p
 
-  abbrev pub Answer : Decoded
-  Answer = decodePlane (settings depth preset shift) (plane place stride rows) (buffers dc ac) (positions d a)
+  module _ {n : ℕ} (e : n ≡ decode call b at .number) where
+    pub may-store : n ≡ 0 → PlaneGood σ p b at
+    unfolding readPlanes
+    may-store z =
+        let q = passed call b at e z in
+        let l = reading-legal call (lengthsOf b) at (q .asked) in
+        record {
+          settings = l .legal .settings;
+          plane = l .legal .planes .0;
+          dc-start = omega (arith, l .dc-start);
+          ac-start = omega (arith, l .ac-start);
+          good = sym (one-good (planeIn σ p b at)) ∙ q .good;
+        }
 
-  through : {n : ℕ} → numbered n → n ≡ 0 → Passed (planeCall depth preset shift place stride rows) (buffers dc ac) (positions d a)
-  through e z = passed (planeCall depth preset shift place stride rows) (buffers dc ac) (positions d a) e z
+    pub plane-refused : 0 < n → record { number = n; at = at; rows = p .samples ∷ [] } ≡ decode call b at
+    plane-refused h = refused-is call b at e h
 
-  pub may-store : {n : ℕ} → numbered n → n ≡ 0 → PlaneGood preset shift stride rows dc d ac a
-  unfolding readPlanes
-  may-store e z =
-      let p = through e z in
-      let l = reading-legal (planeCall depth preset shift place stride rows) (positions (length dc) (length ac)) (positions d a) (p .asked) in
-      record {
-        preset-le = l .legal .preset-le;
-        shift-le = l .legal .shift-le;
-        eights = l .legal .planes .0 .stride-legal .eights;
-        wide = l .legal .planes .0 .stride-legal .ge;
-        stride-le = l .legal .planes .0 .stride-legal .le;
-        rows-long = l .legal .planes .0 .rows-long;
-        dc-start = omega (arith, l .dc-start);
-        ac-start = omega (arith, l .ac-start);
-        good = sym (one-good (readPlane shift (blocksOf stride) dc ac d a)) ∙ p .good;
-      }
-
-  pub plane-refused : {n : ℕ} → numbered n → 0 < n → record { number = n; at = positions d a; rows = rows ∷ [] } ≡ Answer
-  plane-refused e h = refused-is (planeCall depth preset shift place stride rows) (buffers dc ac) (positions d a) e h
-
-  pub plane-accepted : {n : ℕ} {r : Ends} {rows' : List ℕ} → numbered n → n ≡ 0 → PlaneStored (settings depth preset shift) (plane place stride rows) dc d ac a r rows'
-      → record { number = 0; at = positions (r .dc) (r .ac); rows = rows' ∷ [] } ≡ Answer
-  unfolding readPlanes rowsMade
-  plane-accepted e z s =
-      accepted-is (planeCall depth preset shift place stride rows) (buffers dc ac) (positions d a) (through e z)
-      (ap (λ (x : PlaneRead). byPlane x (λ q. planesRead [] q)) (s .ends)) (ap (λ (x : List ℕ). x ∷ []) (s .stored))
+    pub plane-accepted : {end : PerStream} {rows : List ℕ} → n ≡ 0 → PlaneStored σ p b at end rows → record { number = 0; at = end; rows = rows ∷ [] } ≡ decode call b at
+    unfolding readPlanes rowsMade
+    plane-accepted z s =
+        accepted-is call b at (passed call b at e z) (ap (λ (x : PlaneRead). byPlane x (λ q. planesRead [] q)) (s .ends)) (ap (λ (x : List ℕ). x ∷ []) (s .stored))

@@ -1,1 +1,1 @@
-pub mod by_slice
+pub mod Storing

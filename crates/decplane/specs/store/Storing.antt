@@ -2,34 +2,33 @@
 use mathlib.Core.Path.{_≡_}
 use mathlib.Core.Bool.{true}
 use mathlib.Core.List.{List, []}
-use Prim.Native.Nat.{ℕ, _+_, _*_, _%_, _^_, _≤_, _<_}
-use lib.ListN.{length}
-use Rattle.calls.specs.Arguments.{Settings, Plane}
+use Prim.Native.Nat.{ℕ, _+_, _^_, _≤_, _<_}
+use Rattle.calls.specs.Arguments.{Settings, Plane, PerStream, Buffers}
+use Rattle.calls.specs.Legal.{LegalSettings, LegalPlane}
 use Rattle.calls.specs.ReadPlane.{BlockRead, PlaneRead, badPlane, planeRead, readPlane}
 use Rattle.calls.specs.Grid.{blocksOf}
 use Rattle.slice.specs.Plane.{reconstruct}
-use Rattle.entropy.specs.declared.plane.Ends.{Ends}
 use Rattle.blockread.specs.On.{goodPlane}
+
+-- what the streams hold of a plane from these positions on
+abbrev pub planeIn : Settings → Plane → Buffers → PerStream → PlaneRead
+planeIn σ p b at = readPlane (σ .shift) (blocksOf (p .stride)) (b .dcBytes) (b .acBytes) (at .dc) (at .ac)
 
 abbrev pub blocksGot : PlaneRead → List BlockRead
 blocksGot badPlane = []
 blocksGot (planeRead bs qd qa) = bs
 
 -- what the questions leave of a plane, and "the streams are read through before any sample is stored"
-pub record PlaneGood (preset shift stride : ℕ) (rows dc : List ℕ) (d : ℕ) (ac : List ℕ) (a : ℕ) : Type 0 where
-  pub preset-le : preset ≤ 24
-  pub shift-le : shift ≤ 15
-  pub eights : stride % 8 ≡ 0
-  pub wide : 8 ≤ stride
-  pub stride-le : stride ≤ 7680
-  pub rows-long : 16 * stride ≤ length rows
-  pub dc-start : d < 2 ^ 30
-  pub ac-start : a < 2 ^ 30
-  pub good : goodPlane (readPlane shift (blocksOf stride) dc ac d a) ≡ true
+pub record PlaneGood (σ : Settings) (p : Plane) (b : Buffers) (at : PerStream) : Type 0 where
+  pub settings : LegalSettings σ
+  pub plane : LegalPlane p
+  pub dc-start : at .dc < 2 ^ 30
+  pub ac-start : at .ac < 2 ^ 30
+  pub good : goodPlane (planeIn σ p b at) ≡ true
 
--- the plane that the streams hold from d and a on is stored in its rows, and r has their ends
-pub record PlaneStored (σ : Settings) (p : Plane) (dc : List ℕ) (d : ℕ) (ac : List ℕ) (a : ℕ) (r : Ends) (rows : List ℕ) : Type 0 where
-  pub ends : readPlane (σ .shift) (blocksOf (p .stride)) dc ac d a ≡ planeRead (blocksGot (readPlane (σ .shift) (blocksOf (p .stride)) dc ac d a)) (r .dc) (r .ac)
-  pub stored : rows ≡ reconstruct σ p (blocksGot (readPlane (σ .shift) (blocksOf (p .stride)) dc ac d a))
-  pub dc-near : r .dc ≤ d + 2 ^ 21
-  pub ac-near : r .ac ≤ a + 2 ^ 21
+-- the plane that the streams hold from these positions on is stored in its rows, and `end` has the streams' ends
+pub record PlaneStored (σ : Settings) (p : Plane) (b : Buffers) (at end : PerStream) (rows : List ℕ) : Type 0 where
+  pub ends : planeIn σ p b at ≡ planeRead (blocksGot (planeIn σ p b at)) (end .dc) (end .ac)
+  pub stored : rows ≡ reconstruct σ p (blocksGot (planeIn σ p b at))
+  pub dc-near : end .dc ≤ at .dc + 2 ^ 21
+  pub ac-near : end .ac ≤ at .ac + 2 ^ 21
