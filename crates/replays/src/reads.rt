@@ -36,7 +36,13 @@ fn ac_of(b: &[u8]) -> &[u8] {
 // The answer to a call on both streams.
 fn same_answer(b: &[u8], r: ReadAnswer) -> bool {
     match r {
-        ReadAnswer::Refused(x, at) => { if x == 0 { false } else { answered(b, x, at.dc, at.ac) } }
+        ReadAnswer::Refused(x, at) => {
+            if x == 0 {
+                false
+            } else {
+                answered(b, x, at.dc, at.ac)
+            }
+        }
         ReadAnswer::Accepted(at) => answered(b, 0, at.dc, at.ac),
     }
 }
