@@ -18,7 +18,8 @@ pub struct AcGot {
 
 // Reads the symbols of one block, behind `pending` zeros: each value goes to its natural place, a run skips places.
 pub fn read_block(s: &[u8], c0: AcCursor, pending: u64, z: &[u8; 64]) -> AcGot
-    requires { ⌜ At (now s) c0 × (c0 .pos < 2 ^ 59) × (pending < 2 ^ 57) × (now z ≡ zigzag) × (goodPlaces (readPlaces 64 (bitAt (now s)) (c0 .pos) pending) ≡ true) ⌝ }
+    requires { ⌜ At (now s) c0 × (c0 .pos < 2 ^ 59) × (pending < 2 ^ 57) × (now z ≡ zigzag)
+        × (goodPlaces (readPlaces 64 (bitAt (now s)) (c0 .pos) pending) ≡ true) ⌝ }
     ensures { λ r. ⌜ Placed (now (s .entry)) (c0 .pos) pending r ⌝ }
 {
     let mut nat = [0i16; 64];

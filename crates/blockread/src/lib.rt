@@ -55,7 +55,8 @@ pub fn ends(s: Stand) -> Positions
 
 // The next block of a plane whose codes are good: its AC places, then its DC.
 pub fn next_block(dc: &[u8], ac: &[u8], s: Stand, shift: u32, z: &[u8; 64]) -> BlockGot
-    requires { ⌜ Ready (now dc) (now ac) s × (s .dc .pos < 2 ^ 58) × (s .ac .pos < 2 ^ 58) × (shift < 16) × (now z ≡ zigzag) × (goodPlane (readOn shift 1 (now dc) (now ac) s) ≡ true) ⌝ }
+    requires { ⌜ Ready (now dc) (now ac) s × (s .dc .pos < 2 ^ 58) × (s .ac .pos < 2 ^ 58) × (shift < 16)
+        × (now z ≡ zigzag) × (goodPlane (readOn shift 1 (now dc) (now ac) s) ≡ true) ⌝ }
     ensures { λ r. ⌜ NextBlock shift (now (dc .entry)) (now (ac .entry)) s r ⌝ }
 {
     let a = s.ac;

@@ -5,6 +5,7 @@ ghost use mathlib.Core.Path.{_≡_};
 ghost use mathlib.Core.Bool.{not};
 ghost use Prim.Native.Nat.{_+_, _*_, _≤_, _<_};
 ghost use lib.ListN.{length};
+ghost use Rattle.ask.specs.Limits.{strideMax};
 ghost use Rattle.calls.specs.Grid.{level};
 ghost use Rattle.write_block.specs.Block.{natural};
 ghost use Rattle.write_block.specs.Depths.{depthOf, depthRows, PaintedAt};
@@ -33,8 +34,10 @@ pub fn paint_at(
     q: &[u16; 64],
     v: i16,
 )
-    requires { ⌜ (8 ≤ stride) × (stride ≤ 7680) × (c + (7 * stride + 8) ≤ length (depthRows deep (now rows8) (now rows16))) × (c < 200000) ⌝ }
-    ensures { λ _. ⌜ PaintedAt (depthOf deep) c stride (now (q .entry)) v (natural «has_ac» nat) (depthRows deep (now (rows8 .entry)) (now (rows16 .entry))) (depthRows deep (now (rows8 .exit)) (now (rows16 .exit))) × (depthRows (not deep) (now (rows8 .exit)) (now (rows16 .exit)) ≡ depthRows (not deep) (now (rows8 .entry)) (now (rows16 .entry))) ⌝ }
+    requires { ⌜ (8 ≤ stride) × (stride ≤ strideMax) × (c + (7 * stride + 8) ≤ length (depthRows deep (now rows8) (now rows16))) × (c < 200000) ⌝ }
+    ensures { λ _. ⌜ PaintedAt (depthOf deep) c stride (now (q .entry)) v (natural «has_ac» nat)
+        (depthRows deep (now (rows8 .entry)) (now (rows16 .entry))) (depthRows deep (now (rows8 .exit)) (now (rows16 .exit)))
+        × (depthRows (not deep) (now (rows8 .exit)) (now (rows16 .exit)) ≡ depthRows (not deep) (now (rows8 .entry)) (now (rows16 .entry))) ⌝ }
 {
     if deep || has_ac {
         let p = dct::inverse::idct_core(nat, q, deep);

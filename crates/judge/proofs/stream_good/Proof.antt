@@ -46,7 +46,7 @@ mul-through : tie.Need-mul-through Inv-loop μ-loop
 mul-through c = omega (arith, below-four (c .loop-test .taken) (start c .pre .1 .0))
 
 array-read-through : tie.Need-array-read-through Inv-loop μ-loop
-array-read-through c = below-four (c .loop-test .taken) (start c .pre .1 .0)
+array-read-through c = omega (arith, below-four (c .loop-test .taken) (start c .pre .1 .0))
 
 through-requires : tie.Need-through-requires Inv-loop μ-loop
 through-requires c κs =

@@ -1,5 +1,5 @@
 -- Two rows of blocks, one behind the other.
-use mathlib.Core.Path.{_≡_, refl, sym, ap, ap₂, _∙_}
+use mathlib.Core.Path.{_≡_, refl, sym, ap, ap₂, subst, _∙_}
 use mathlib.Core.Bool.{true, false}
 use mathlib.Core.List.{List, [], _++_, map, append-nil}
 use Prim.Native.Nat.{ℕ, _+_, _*_}
@@ -61,10 +61,16 @@ module _ (shift place w : ℕ) (upper lower dc : List ℕ) (at : ℕ) (good : go
         ap₂ (λ (n m : ℕ). dcBit (readSteps n (bitAt dc) m)) twice (sym h) ∙ a .ends w good-both
         ∙ ap (λ (n : ℕ). dcBit (readSteps n (bitAt dc) (r .c .pos))) none ∙ b .ends 0 good-lower ∙ none-bit (bitAt dc) (t .c .pos)
 
-    pub rows-stored : {q : ℕ} → q ≡ bytesFor (t .c .pos) → Stored shift place w upper u lower v (readSteps (2 * w) (bitAt dc) (8 * at)) q
+    rows-stored : {q : ℕ} → q ≡ bytesFor (t .c .pos) → Stored shift place w upper u lower v (readSteps (2 * w) (bitAt dc) (8 * at)) q
     rows-stored e =
         record {
           end = ap accepted e ∙ sym (ap inBytes both-end);
           above = a .stored ∙ ap (lay upper 0) (sym (ap (take w) joined ∙ take-at (a .bytes) (b .bytes ++ []) w (a .count)));
           below = b .stored ∙ ap (lay lower 0) (sym (ap (drop w) joined ∙ drop-at (a .bytes) (b .bytes ++ []) w (a .count) ∙ append-nil (b .bytes)));
         }
+
+  -- the second row begun with a prior that is the first row's last DC
+  pub rows-stored-from : {u v : List ℕ} {r t : RowEnd} → RowDone dc shift (level eight place) w p (pos 0) upper u r → {x : ℤ} → x ≡ r .last
+      → RowDone dc shift (level eight place) w (r .c .pos) x lower v t → {q : ℕ} → q ≡ bytesFor (t .c .pos) → Stored shift place w upper u lower v (readSteps (2 * w) (bitAt dc) (8 * at)) q
+  rows-stored-from {v = v} {r = r} {t = t} a {x} f b e =
+      rows-stored a (subst (λ (z : ℤ). RowDone dc shift (level eight place) w (r .c .pos) z lower v t) f b) e

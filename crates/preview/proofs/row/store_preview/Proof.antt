@@ -7,7 +7,7 @@ use mir.Syntax.{w16}
 use mir.Val.{ofZ, toZ}
 use Rattle.calls.specs.Arguments.{eight}
 use Rattle.calls.specs.Grid.{level}
-use Rattle.preview.proofs.row.Rows.{rows-stored}
+use Rattle.preview.proofs.row.Rows.{rows-stored-from}
 use Rattle.preview.proofs.row.store_preview.Statement.{statement}
 use Rattle.preview.proofs.row.store_preview.Tie as tie
 
@@ -57,7 +57,7 @@ returns c =
     let a = s .args in
     let e : toZ w16 (ofZ w16 (l .lane8 .result)) ≡ level eight (a .place) = toZ-ofZ (sfits-of (l .lane8 .ok)) ∙ l .lane8 .ensures in
     let f : toZ w16 (ofZ w16 (v .preview-row .result .last)) ≡ v .preview-row .result .last = toZ-ofZ (v .preview-row .ensures .fits) in
-    rows-stored (a .shift) (a .place) (a .columns) (a .upper .now) (a .lower .now) (a .dc .now) (a .at) (s .pre .5) (u .cursor .ensures .1) (rw e at (v .preview-row .ensures)) (rw (e, f) at (w .preview-row2 .ensures)) (c .end-byte .ensures)
+    rows-stored-from (a .shift) (a .place) (a .columns) (a .upper .now) (a .lower .now) (a .dc .now) (a .at) (s .pre .5) (u .cursor .ensures .1) (rw e at (v .preview-row .ensures)) f (rw e at (w .preview-row2 .ensures)) (c .end-byte .ensures)
 
 pub store-preview-spec : {M : Type 1} → statement M
 store-preview-spec =
