@@ -5,6 +5,7 @@ use Prim.Native.Nat.{ℕ, zero, suc, _+_, _*_, _^_, _/_, _-_, _≤_, _<_}
 use native.Mathlib.Omega.{arith}
 use lib.IntN.{ℤ, pos, negsuc, natAbs, _-ℤ_}
 use lib.ListN.{length, length-append, length-map}
+use Rattle.ask.specs.Limits.{shiftMax, dcBlockBytes, acBlockBytes}
 use Rattle.bits.specs.Bits.{bitLength, halvings, spread, valueCode, runCode, bytesFor, padToByte}
 use Rattle.bits.specs.Signed.{codeOf}
 use Rattle.bits.proofs.Codes.{Digits, digits, digits-lt, length-spread}
@@ -52,11 +53,11 @@ unfolding stepCodes stepsFrom
 steps-length q [] hq h = omega arith
 steps-length q (e ∷ es) hq h = simp length-append (omega (arith, step-length (e -ℤ q) (omega (arith, abs-less e q, h .0)), steps-length e es (h .0) (h .1)))
 
-coded-at-most : (s : ℕ) (ds : List ℤ) → s ≤ 15 → AtMost 2048 ds → AtMost 2048 (map (codedDc s) ds)
+coded-at-most : (s : ℕ) (ds : List ℤ) → s ≤ shiftMax → AtMost 2048 ds → AtMost 2048 (map (codedDc s) ds)
 coded-at-most s [] hs h = tt
 coded-at-most s (d ∷ ds) hs h = (dc-near s d hs (h .0) .small, coded-at-most s ds hs (h .1))
 
-pub dc-length : (s : ℕ) (bs : List (List ℤ)) → s ≤ 15 → AtMost 2048 (map dcOf bs) → length (dcStream s bs) ≤ 4 * length bs
+pub dc-length : (s : ℕ) (bs : List (List ℤ)) → s ≤ shiftMax → AtMost 2048 (map dcOf bs) → length (dcStream s bs) ≤ dcBlockBytes * length bs
 unfolding dcStream
 dc-length s bs hs h =
     rw (length-padToByte (stepCodes (stepsFrom (pos 0) (map (codedDc s) (map dcOf bs)))))
@@ -116,7 +117,7 @@ plane-costs ((c ∷ []) ∷ bs) s = absurd (omega (arith, s .0))
 plane-costs ((c ∷ d ∷ b) ∷ bs) s =
     rw (costs-append (d ∷ b) (joined (map (withDc (pos 0)) bs))) (omega (arith, costs-le d b (s .1), s .0, plane-costs bs (s .2)))
 
-pub ac-length : (bs : List (List ℤ)) → AcSmall bs → length (acStream bs) ≤ 197 * length bs
+pub ac-length : (bs : List (List ℤ)) → AcSmall bs → length (acStream bs) ≤ acBlockBytes * length bs
 unfolding acStream
 ac-length bs s =
     rw (length-padToByte (symbolCodes 0 (joined (map (withDc (pos 0)) bs))))

@@ -26,10 +26,10 @@ pub fn decode_plane(
 {
     let n = judge::verdict::plane(s, h, rows.len(), dc, ac, at);
     if 0 < n {
-        return ReadAnswer::Refused(n, at.dc, at.ac);
+        return ReadAnswer::Refused(n, at);
     }
     let e = decplane::ten::plane(rows, h, s, dc, ac, at);
-    ReadAnswer::Accepted(e.dc, e.ac)
+    ReadAnswer::Accepted(e)
 }
 
 // The storing pass over a slice whose streams were judged good: the first planes in order, each from where the streams of the plane
@@ -100,10 +100,10 @@ pub fn decode_slice(
         (buffers (now (dc .entry)) (now (ac .entry))) (positionsBy at) ⌝ }
 {
     let rows = [p0.len(), p1.len(), p2.len(), p3.len()];
-    let n = judge::verdict::slice(s, f, rows, dc, ac, at);
-    if 0 < n {
-        return ReadAnswer::Refused(n, at.dc, at.ac);
+    let number = judge::verdict::slice(s, f, rows, dc, ac, at);
+    if 0 < number {
+        return ReadAnswer::Refused(number, at);
     }
     let e = slice(p0, p1, p2, p3, f, s, dc, ac, at);
-    ReadAnswer::Accepted(e.dc, e.ac)
+    ReadAnswer::Accepted(e)
 }

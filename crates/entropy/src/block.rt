@@ -60,8 +60,10 @@ fn code(v: i16) -> u32
 // Appends the places of a block, place 0 taken as zero: each non-zero coefficient with the run of zeros before it.
 // The mask has the non-zero places; only they are visited.
 pub fn ac_block(s: AcState, z: [i16; 64], mask: u64, out: &mut [u8]) -> AcState
-    requires { ⌜ (mask ≡ nonzeroMask z) × Small z × (s .run + 64 ≤ 2 ^ 17) × Room (s .a) (length (placesCodes (s .run) (withDc (pos 0) z))) (now out) ⌝ }
-    ensures { λ r. ⌜ Put (s .a) (now (out .entry)) (placesCodes (s .run) (withDc (pos 0) z)) (r .a) (now (out .exit)) × (r .run ≡ waitingAfter (s .run) (withDc (pos 0) z)) ⌝ }
+    requires { ⌜ (mask ≡ nonzeroMask z) × Small z × (s .run + 64 ≤ 2 ^ 17)
+        × Room (s .a) (length (placesCodes (s .run) (withDc (pos 0) z))) (now out) ⌝ }
+    ensures { λ r. ⌜ Put (s .a) (now (out .entry)) (placesCodes (s .run) (withDc (pos 0) z)) (r .a) (now (out .exit))
+        × (r .run ≡ waitingAfter (s .run) (withDc (pos 0) z)) ⌝ }
 {
     let mut a = s.a;
     let mut run = s.run + 1;

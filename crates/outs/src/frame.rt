@@ -20,7 +20,7 @@ ghost use Rattle.builder.specs.streams.Views.{StreamCall};
 ghost use Rattle.builder.specs.declared.Builder.{Builder};
 ghost use Rattle.shown.specs.Shown.{wasAccepted};
 ghost use Rattle.outs.specs.frame.Outs.{isOn, flagOf, isImageRow, rowLeft, handed, handedBy};
-ghost use Rattle.outs.specs.frame.Outs.{layoutPlaces, layoutParts, framePlaces, frameParts, viewPlaces, viewParts, noPart};
+ghost use Rattle.outs.specs.frame.Outs.{layoutPlaces, layoutParts, framePlaces, frameParts, viewPlaces, viewParts, emptyPart};
 ghost use Rattle.outs.specs.frame.Outs.{startPlaces, startParts, putPlaces, putParts};
 
 // A truth value as a number.
@@ -127,7 +127,7 @@ pub fn frame_out(
 
 // Of a slice's stream: where it lies in the frame.
 pub fn view_out(answer: ViewAnswer, offset: &mut usize, len: &mut usize) -> u32
-    ensures { λ r. ⌜ handed r (viewPlaces (now (offset .exit)) (now (len .exit))) ≡ handedBy (viewSays answer) viewParts noPart ⌝ }
+    ensures { λ r. ⌜ handed r (viewPlaces (now (offset .exit)) (now (len .exit))) ≡ handedBy (viewSays answer) viewParts emptyPart ⌝ }
 {
     match answer {
         ViewAnswer::Refused(x) => {

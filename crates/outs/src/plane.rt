@@ -1,6 +1,7 @@
 // Answers of the calls on planes and slices, handed out: the number is returned, positions and lengths go into the places that
 // the caller lends for them.
 use acread::through::PlaneEnd;
+use calls::Positions;
 use questions::answers::CodeAnswer;
 use questions::answers::ReadAnswer;
 use questions::answers::SizeAnswer;
@@ -14,22 +15,23 @@ ghost use Rattle.outs.specs.plane.Planes.{codedAs, decodedAs, previewedA
 ghost use Rattle.questions.specs.answers.Code.{answered as codedAnswered};
 ghost use Rattle.questions.specs.answers.Read.{answered as readAnswered};
 
+// A number returned, and both positions into their places.
+fn positions_out(number: u32, at: Positions, dc_at: &mut usize, ac_at: &mut usize) -> u32
+    ensures { λ r. ⌜ (r ≡ number) × (now («dc_at» .exit) ≡ at .dc) × (now («ac_at» .exit) ≡ at .ac) ⌝ }
+{
+    *dc_at = at.dc;
+    *ac_at = at.ac;
+    number
+}
+
 // Of a coding call: both positions, as they were given where it is refused.
 pub fn coded_out(answer: CodeAnswer, dc_at: &mut usize, ac_at: &mut usize) -> u32
     ensures { λ r. ⌜ ((dcs : List ℕ) (acs : List ℕ)
         → codedAs r (now («dc_at» .exit)) (now («ac_at» .exit)) dcs acs ≡ codedAnswered answer dcs acs) ⌝ }
 {
     match answer {
-        CodeAnswer::Refused(number, start) => {
-            *dc_at = start.dc;
-            *ac_at = start.ac;
-            number
-        }
-        CodeAnswer::Accepted(end) => {
-            *dc_at = end.dc;
-            *ac_at = end.ac;
-            0
-        }
+        CodeAnswer::Refused(number, start) => positions_out(number, start, dc_at, ac_at),
+        CodeAnswer::Accepted(end) => positions_out(0, end, dc_at, ac_at),
     }
 }
 
@@ -39,16 +41,8 @@ pub fn read_out(answer: ReadAnswer, dc_at: &mut usize, ac_at: &mut usize) -> u32
         → decodedAs r (now («dc_at» .exit)) (now («ac_at» .exit)) lent ≡ readAnswered answer lent) ⌝ }
 {
     match answer {
-        ReadAnswer::Refused(n, d0, a0) => {
-            *dc_at = d0;
-            *ac_at = a0;
-            n
-        }
-        ReadAnswer::Accepted(d1, a1) => {
-            *dc_at = d1;
-            *ac_at = a1;
-            0
-        }
+        ReadAnswer::Refused(number, start) => positions_out(number, start, dc_at, ac_at),
+        ReadAnswer::Accepted(end) => positions_out(0, end, dc_at, ac_at),
     }
 }
 

@@ -12,9 +12,9 @@ pub enum CodeAnswer {
 // Of a reading call.
 pub enum ReadAnswer {
     // The number of the first "no", 8 for a bad code, and the positions of both streams as they were given.
-    Refused(u32, usize, usize),
+    Refused(u32, Positions),
     // Where the planes' two streams end.
-    Accepted(usize, usize),
+    Accepted(Positions),
 }
 
 // Of a size call.

@@ -2,8 +2,11 @@
 
 ghost use Prim.Native.Nat.{_<_};
 
-// A record's bytes, the longest's; zeros after a shorter one's end.
-pub type Record = [u8; 1120];
+// The length of the longest record.
+pub const LONGEST: usize = 1120;
+
+// A record's bytes; zeros after the end of a shorter one than the longest.
+pub type Record = [u8; LONGEST];
 
 // A byte as a number of two bytes.
 pub fn unsigned(b: u8) -> u16 {

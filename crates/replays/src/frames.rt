@@ -12,8 +12,10 @@ use replay::size;
 use replay::wide;
 
 pub const LENGTH: usize = 148;
-// Numbers in the table that is lent for all streams: two for each stream of the most slices, and four more.
-const TABLE: usize = 1084;
+// The streams that the table lent for them has room for: two for each slice, and two more.
+const VIEWS: usize = 2 * SLICES_MAX + 2;
+// Two numbers for each.
+const TABLE: usize = 2 * VIEWS;
 
 fn flag(x: bool) -> u8 {
     if x { 1 } else { 0 }
@@ -76,7 +78,7 @@ fn place(b: &Record, width: usize, height: usize, frame: &[u8]) -> bool {
 
 // A view in a table of all views.
 fn same_view(b: &Record, view: usize, table: &[u32; TABLE]) -> bool {
-    if 541 < view {
+    if VIEWS <= view {
         return false;
     }
     let i = 2 * view;

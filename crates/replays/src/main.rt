@@ -53,7 +53,7 @@ fn holds(p: Part, b: &Record) -> bool {
 
 // Reads and compares one record; false where there is none. One that is cut off counts as different.
 fn turn(p: Part, file: i32, counts: &mut [u64; 2]) -> bool {
-    let mut b = [0u8; 1120];
+    let mut b = [0u8; replay::LONGEST];
     let length = length_of(p);
     let n = io::read_full(file, replay::cut(&mut b, length));
     if n == 0 {

@@ -36,8 +36,14 @@ fn ac_of(b: &[u8]) -> &[u8] {
 // The answer to a call on both streams.
 fn same_answer(b: &[u8], r: ReadAnswer) -> bool {
     match r {
-        ReadAnswer::Refused(x, d, a) => { if x == 0 { false } else { answered(b, x, d, a) } }
-        ReadAnswer::Accepted(d, a) => answered(b, 0, d, a),
+        ReadAnswer::Refused(x, at) => {
+            if x == 0 {
+                false
+            } else {
+                answered(b, x, at.dc, at.ac)
+            }
+        }
+        ReadAnswer::Accepted(at) => answered(b, 0, at.dc, at.ac),
     }
 }
 

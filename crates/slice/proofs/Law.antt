@@ -13,6 +13,7 @@ use Rattle.fdct.proofs.Coefficients.{forward-fits}
 use Rattle.quant.specs.Quantise.{quantiseOf, scanOf}
 use Rattle.quant.proofs.Blocks.{scan-length}
 use Rattle.quant.proofs.Bounds.{scanned-bound, scanned-last}
+use Rattle.ask.specs.Limits.{presetMax, shiftMax, dcBlockBytes, acBlockBytes}
 use Rattle.calls.specs.Arguments.{Depth, isTen, Settings, Plane}
 use Rattle.calls.specs.Streams.{dcOf, dcStream, acStream}
 use Rattle.calls.specs.Grid.{columnsOf, blocksOf, level}
@@ -27,7 +28,7 @@ at-most-list b [] h = tt
 at-most-list b (c ∷ l) h = (h 0 (omega arith), at-most-list b l (λ i k. h (suc i) (suc-le-suc k)))
 
 -- of the real transform and quantiser
-pub quantised : (depth : Depth) (preset : ℕ) (p : Plane) (j k : ℕ) → preset ≤ 24 → Quantised (blockCoefficients depth preset p j k)
+pub quantised : (depth : Depth) (preset : ℕ) (p : Plane) (j k : ℕ) → preset ≤ presetMax → Quantised (blockCoefficients depth preset p j k)
 unfolding blockCoefficients
 quantised depth preset p j k h =
     record {
@@ -42,7 +43,7 @@ quantised depth preset p j k h =
     Q : List ℤ
     Q = quantiseOf preset L
 
-module _ (σ : Settings) (p : Plane) (preset-le : σ .preset ≤ 24) where
+module _ (σ : Settings) (p : Plane) (preset-le : σ .preset ≤ presetMax) where
   row-quantised : (j k n : ℕ) → AllQuantised (tabFrom (blockCoefficients (σ .depth) (σ .preset) p j) k n)
   unfolding tabFrom
   row-quantised j k zero = tt
@@ -65,8 +66,8 @@ module _ (σ : Settings) (p : Plane) (preset-le : σ .preset ≤ 24) where
       length-append (tab (columnsOf (p .stride)) (blockCoefficients (σ .depth) (σ .preset) p 0)) (tab (columnsOf (p .stride)) (blockCoefficients (σ .depth) (σ .preset) p 1))
       ∙ (omega (arith, length-tab (columnsOf (p .stride)) (blockCoefficients (σ .depth) (σ .preset) p 0), length-tab (columnsOf (p .stride)) (blockCoefficients (σ .depth) (σ .preset) p 1)))
 
-  pub dc-fits : σ .shift ≤ 15 → length (dcStream (σ .shift) (coefficients σ p)) ≤ 4 * blocksOf (p .stride)
+  pub dc-fits : σ .shift ≤ shiftMax → length (dcStream (σ .shift) (coefficients σ p)) ≤ dcBlockBytes * blocksOf (p .stride)
   dc-fits h = fits.dc-fits (coefficients σ p) plane-quantised (p .stride) count-is (σ .shift) h
 
-  pub ac-fits : length (acStream (coefficients σ p)) ≤ 197 * blocksOf (p .stride)
+  pub ac-fits : length (acStream (coefficients σ p)) ≤ acBlockBytes * blocksOf (p .stride)
   ac-fits = fits.ac-fits (coefficients σ p) plane-quantised (p .stride) count-is

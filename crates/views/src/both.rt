@@ -1,15 +1,18 @@
 // The walks over all streams of a frame, DC and AC, with the views stored in a lent table.
+use ask::limits::ROWS;
 use ask::limits::SLICES_MAX;
 use parser::streams::Place;
 ghost use Prim.Native.Nat.{_*_, _≤_};
 ghost use lib.ListN.{length};
 ghost use Rattle.layout.specs.Geometry.{sliceCount};
-ghost use Rattle.views.specs.both.Views.{walkedSays, Tabled, Walkable, TableHeld};
+ghost use Rattle.views.specs.both.Views.{walkedSays, Tabled, Walkable, TableHeld, smallSlices, smallTable};
 
-// A frame of up to so many rows has a small place to hold its table: four numbers for each of its slices.
-const SMALL_HEIGHT: usize = 1088;
+// A frame of up to so many slices (1,088 rows) has a small place to hold its table: four numbers for each.
+const SMALL_SLICES: usize = 68;
 
-const SMALL: usize = 272;
+const SMALL_HEIGHT: usize = ROWS * SMALL_SLICES;
+
+const SMALL: usize = 4 * SMALL_SLICES;
 // The place of any frame.
 const LARGE: usize = 4 * SLICES_MAX;
 
@@ -63,7 +66,7 @@ fn walk_with(
 
 // Such a place: for a frame of up to 1,088 rows with a table of as many numbers, for such a frame with any table, for any frame.
 fn walk_whole(width: usize, height: usize, frame: &[u8], table: &mut [u32]) -> Walked
-    requires { ⌜ (Walkable width height (now frame) (now table)) × (sliceCount height ≤ 68) × (272 ≤ length (now table)) ⌝ }
+    requires { ⌜ (Walkable width height (now frame) (now table)) × (sliceCount height ≤ smallSlices) × (smallTable ≤ length (now table)) ⌝ }
     ensures { λ r. ⌜ Tabled width height (now (frame .entry)) (now (table .entry)) (now (table .exit)) (walkedSays height (now (frame .entry)) r) ⌝ }
 {
     let mut held = [0u32; SMALL];
@@ -72,7 +75,7 @@ fn walk_whole(width: usize, height: usize, frame: &[u8], table: &mut [u32]) -> W
 }
 
 fn walk_small(width: usize, height: usize, frame: &[u8], table: &mut [u32]) -> Walked
-    requires { ⌜ (Walkable width height (now frame) (now table)) × (sliceCount height ≤ 68) ⌝ }
+    requires { ⌜ (Walkable width height (now frame) (now table)) × (sliceCount height ≤ smallSlices) ⌝ }
     ensures { λ r. ⌜ Tabled width height (now (frame .entry)) (now (table .entry)) (now (table .exit)) (walkedSays height (now (frame .entry)) r) ⌝ }
 {
     let mut held = [0u32; SMALL];

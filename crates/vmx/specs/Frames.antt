@@ -44,8 +44,8 @@ abbrev pub shownParts : ShownAt → ShownPlaces
 shownParts s = shownPlaces (flagOf (s .fromNew)) (s .offset) (s .size)
 
 -- on refusal: "an empty part", of no picture
-abbrev pub noRowsShown : ShownPlaces
-noRowsShown = shownPlaces 0 0 0
+abbrev pub nothingShown : ShownPlaces
+nothingShown = shownPlaces 0 0 0
 
 -- the call for all streams: what it hands out of the header, and the table
 pub record Streams : Type 0 where

@@ -15,9 +15,9 @@ ghost use Rattle.builder.specs.Build.{headerOf};
 ghost use Rattle.builder.specs.streams.Put.{streamOf};
 ghost use Rattle.shown.specs.Shown.{timeOf};
 ghost use Rattle.outs.specs.frame.Outs.{isOn, flagOf, isImageRow, rowLeft, handed, handedBy};
-ghost use Rattle.outs.specs.frame.Outs.{layoutPlaces, layoutParts, framePlaces, frameParts, viewPlaces, viewParts, noPart};
+ghost use Rattle.outs.specs.frame.Outs.{layoutPlaces, layoutParts, framePlaces, frameParts, viewPlaces, viewParts, emptyPart};
 ghost use Rattle.outs.specs.frame.Outs.{startPlaces, startParts, putPlaces, putParts};
-ghost use Rattle.vmx.specs.Frames.{stateOf, shownAt, shownPlaces, shownParts, noRowsShown, streamsAs, streamsBy};
+ghost use Rattle.vmx.specs.Frames.{stateOf, shownAt, shownPlaces, shownParts, nothingShown, streamsAs, streamsBy};
 
 // The geometry of a frame size: strides in samples, stream limits in bytes.
 #[no_mangle]
@@ -148,7 +148,7 @@ pub extern "C" fn vmx_stream(
     len: &mut usize,
 ) -> u32
     ensures { λ r. ⌜ handed r (viewPlaces (now (offset .exit)) (now (len .exit)))
-        ≡ handedBy (viewOf width height (now (frame .entry)) (isOn ac) slice) viewParts noPart ⌝ }
+        ≡ handedBy (viewOf width height (now (frame .entry)) (isOn ac) slice) viewParts emptyPart ⌝ }
 {
     let kind = outs::frame::kind_of(ac);
     let r = parser::view_at(width, height, frame, kind, slice);
@@ -240,7 +240,7 @@ pub extern "C" fn vmx_shown_rows(
     len: &mut usize,
 ) -> u32
     ensures { λ r. ⌜ handed r (shownPlaces (now («from_new» .exit)) (now (offset .exit)) (now (len .exit)))
-        ≡ handedBy (shownAt stride slice verdict new held) shownParts noRowsShown ⌝ }
+        ≡ handedBy (shownAt stride slice verdict new held) shownParts nothingShown ⌝ }
 {
     let x = shown::shown_number(new, held, stride, slice);
     if 0 < x {

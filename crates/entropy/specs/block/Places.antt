@@ -1,4 +1,4 @@
--- Part of a plane's row of places: the codes that it puts, and the zeros that wait behind it. Document 01, 'Calls in a row':
+-- Part of a plane's row of places: the codes that it puts, and the zeros that wait after it. Document 01, 'Calls in a row':
 -- "each longest row of zeros, across blocks too, is one run, every other coefficient a value".
 use mathlib.Core.Bool.{Bool}
 use mathlib.Core.List.{List, [], _∷_, _++_}
@@ -15,7 +15,7 @@ placesCodes waiting (pos zero ∷ cs) = placesCodes (suc waiting) cs
 placesCodes waiting (pos (suc n) ∷ cs) = (runCode waiting ++ valueCode (codeOf (pos (suc n)))) ++ placesCodes 0 cs
 placesCodes waiting (negsuc n ∷ cs) = (runCode waiting ++ valueCode (codeOf (negsuc n))) ++ placesCodes 0 cs
 
--- behind the last place
+-- after the last place
 unfoldable pub waitingAfter : ℕ → List ℤ → ℕ
 waitingAfter waiting [] = waiting
 waitingAfter waiting (pos zero ∷ cs) = waitingAfter (suc waiting) cs

@@ -89,8 +89,8 @@ abbrev pub viewParts : View → ViewPlaces
 viewParts v = viewPlaces (v .offset) (v .size)
 
 -- "an empty part for a view"
-abbrev pub noPart : ViewPlaces
-noPart = viewPlaces 0 0
+abbrev pub emptyPart : ViewPlaces
+emptyPart = viewPlaces 0 0
 
 -- a frame's header, written: the buffer, and the builder's state
 pub record StartPlaces : Type 0 where

@@ -4,9 +4,9 @@ use Prim.Native.Nat.{ℕ}
 use Rattle.slice.specs.Calls.{Decoded}
 use Rattle.questions.specs.declared.answers.ReadAnswer.{ReadAnswer}
 use Rattle.questions.specs.declared.answers.ReadAnswer.the-variants.{Refused, Accepted}
-use Rattle.calls.specs.Arguments.{positions}
+use Rattle.calls.specs.Views.{positionsBy}
 
 -- document 01's number and positions of an answer, with the rows of every lent plane as they are now
 abbrev pub answered : ReadAnswer → List (List ℕ) → Decoded
-answered (Refused n d a) rows = record { number = n; at = positions d a; rows = rows }
-answered (Accepted d a) rows = record { number = 0; at = positions d a; rows = rows }
+answered (Refused n at) rows = record { number = n; at = positionsBy at; rows = rows }
+answered (Accepted at) rows = record { number = 0; at = positionsBy at; rows = rows }

@@ -32,3 +32,10 @@ pub record Walkable (w h : ℕ) (f table : List ℕ) : Type 0 where
 pub record TableHeld (h : ℕ) (table held : List ℕ) : Type 0 where
   pub long : 4 * sliceCount h ≤ length held
   pub same : take (4 * sliceCount h) held ≡ take (4 * sliceCount h) table
+
+-- a frame of so many slices, and a table of as many numbers as its views take, have a small place to hold it
+abbrev pub smallSlices : ℕ
+smallSlices = 68
+
+abbrev pub smallTable : ℕ
+smallTable = 4 * smallSlices

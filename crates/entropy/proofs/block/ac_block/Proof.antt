@@ -1,4 +1,4 @@
--- `entropy::block::ac_block`: a turn codes the next non-zero place; the mask of the places behind it is left.
+-- `entropy::block::ac_block`: a turn codes the next non-zero place; the mask of the places after it is left.
 use mathlib.Core.Path.{_≡_, sym, ap, _∙_}
 use mathlib.Core.List.{_++_}
 use Prim.Native.Nat.{ℕ, _+_, _-_, _≤_, _<_}

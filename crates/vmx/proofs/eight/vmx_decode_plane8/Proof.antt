@@ -6,11 +6,11 @@ use Rattle.vmx.proofs.eight.vmx_decode_plane8.Tie as tie
 returns : tie.Need-returns
 returns c =
     let v = c .before .before .before .before .before in
-    c .read-out .ensures _ ∙ v .decode-plane8 .ensures
+    c .read-out .ensures _ ∙ v .decode-plane .ensures
 
 -- the call changed no length
 rows-kept : tie.Need-same-length
-rows-kept c = c .before .before .before .before .before .decode-plane8 .kept .0
+rows-kept c = c .before .before .before .before .before .decode-plane .kept .0
 
 pub vmx-decode-plane8-spec : {M : Type 1} → statement M
 vmx-decode-plane8-spec =

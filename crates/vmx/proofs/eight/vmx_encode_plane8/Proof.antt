@@ -6,14 +6,14 @@ use Rattle.vmx.proofs.eight.vmx_encode_plane8.Tie as tie
 returns : tie.Need-returns
 returns c =
     let v = c .before .before .before .before .before .before .before in
-    c .coded-out .ensures _ _ ∙ v .encode-plane8 .ensures
+    c .coded-out .ensures _ _ ∙ v .encode-plane .ensures
 
 -- the call changed no length
 dc-kept : tie.Need-same-length
-dc-kept c = c .before .before .before .before .before .before .before .encode-plane8 .kept .1 .1 .1 .1 .1 .0
+dc-kept c = c .before .before .before .before .before .before .before .encode-plane .kept .1 .1 .1 .0
 
 ac-kept : tie.Need-same-length-2
-ac-kept c = c .before .before .before .before .before .before .before .encode-plane8 .kept .1 .1 .1 .1 .1 .1 .1 .0
+ac-kept c = c .before .before .before .before .before .before .before .encode-plane .kept .1 .1 .1 .1 .0
 
 pub vmx-encode-plane8-spec : {M : Type 1} → statement M
 vmx-encode-plane8-spec =

@@ -6,14 +6,14 @@ use Rattle.vmx.proofs.eight.vmx_encode_slice8.Tie as tie
 returns : tie.Need-returns
 returns c =
     let v = c .before .before .before .before .before .before .before in
-    c .coded-out .ensures _ _ ∙ v .encode-slice8 .ensures
+    c .coded-out .ensures _ _ ∙ v .encode-slice .ensures
 
 -- the call changed no length
 dc-kept : tie.Need-same-length
-dc-kept c = c .before .before .before .before .before .before .before .encode-slice8 .kept .1 .1 .1 .1 .1 .1 .1 .1 .1 .1 .1 .0
+dc-kept c = c .before .before .before .before .before .before .before .encode-slice .kept .1 .1 .1 .1 .1 .1 .0
 
 ac-kept : tie.Need-same-length-2
-ac-kept c = c .before .before .before .before .before .before .before .encode-slice8 .kept .1 .1 .1 .1 .1 .1 .1 .1 .1 .1 .1 .1 .1 .0
+ac-kept c = c .before .before .before .before .before .before .before .encode-slice .kept .1 .1 .1 .1 .1 .1 .1 .0
 
 pub vmx-encode-slice8-spec : {M : Type 1} → statement M
 vmx-encode-slice8-spec =

@@ -10,10 +10,10 @@ returns c =
 
 -- the call changed no length
 upper-kept : tie.Need-same-length
-upper-kept c = c .before .before .before .before .before .before .preview .kept .1 .1 .1 .0
+upper-kept c = c .before .before .before .before .before .before .preview .kept .1 .1 .0
 
 lower-kept : tie.Need-same-length-2
-lower-kept c = c .before .before .before .before .before .before .preview .kept .1 .1 .1 .1 .0
+lower-kept c = c .before .before .before .before .before .before .preview .kept .1 .1 .1 .0
 
 pub vmx-preview-spec : {M : Type 1} → statement M
 vmx-preview-spec = tie.close (tie.spec (λ c κs. tt) (λ c κs. tt) upper-kept lower-kept returns)

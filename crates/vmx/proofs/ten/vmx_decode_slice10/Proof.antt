@@ -6,20 +6,20 @@ use Rattle.vmx.proofs.ten.vmx_decode_slice10.Tie as tie
 returns : tie.Need-returns
 returns c =
     let v = c .before .before .before .before .before .before .before .before .before .before .before in
-    c .read-out .ensures _ ∙ v .decode-slice10 .ensures
+    c .read-out .ensures _ ∙ v .decode-slice .ensures
 
 -- the call changed no length
 rows-kept-0 : tie.Need-same-length
-rows-kept-0 c = c .before .before .before .before .before .before .before .before .before .before .before .decode-slice10 .kept .0
+rows-kept-0 c = c .before .before .before .before .before .before .before .before .before .before .before .decode-slice .kept .0
 
 rows-kept-1 : tie.Need-same-length-2
-rows-kept-1 c = c .before .before .before .before .before .before .before .before .before .before .before .decode-slice10 .kept .1 .1 .0
+rows-kept-1 c = c .before .before .before .before .before .before .before .before .before .before .before .decode-slice .kept .1 .0
 
 rows-kept-2 : tie.Need-same-length-3
-rows-kept-2 c = c .before .before .before .before .before .before .before .before .before .before .before .decode-slice10 .kept .1 .1 .1 .1 .0
+rows-kept-2 c = c .before .before .before .before .before .before .before .before .before .before .before .decode-slice .kept .1 .1 .0
 
 rows-kept-3 : tie.Need-same-length-4
-rows-kept-3 c = c .before .before .before .before .before .before .before .before .before .before .before .decode-slice10 .kept .1 .1 .1 .1 .1 .1 .0
+rows-kept-3 c = c .before .before .before .before .before .before .before .before .before .before .before .decode-slice .kept .1 .1 .1 .0
 
 pub vmx-decode-slice10-spec : {M : Type 1} → statement M
 vmx-decode-slice10-spec =
