@@ -12,7 +12,8 @@ use Rattle.bits.specs.Signed.{codeOf, signedOf}
 use Rattle.bits.proofs.Codes.{At, at-append, value-back, run-back}
 use Rattle.bits.proofs.SignedBack.{signed-back, code-value, code-le}
 use Rattle.calls.specs.Streams.{symbolCodes}
-use Rattle.calls.specs.ReadPlane.{Places, places, readPlaces}
+use Rattle.bits.specs.Read.{run}
+use Rattle.calls.specs.ReadPlane.{Places, places, placeThen, bySymbol, readPlaces}
 
 -- numbers of 16 bits
 abbrev pub Fit16 : List ℤ → Type 0
@@ -48,6 +49,10 @@ coming (suc m) k s q cs q′ r′ e = rw (suc-add, coming m k s q cs q′ r′ e
 less-one : (r : ℕ) → suc r - 1 ≡ r
 less-one r = omega arith
 
+-- a run of r + 1 zeros: one is at this place, r are still to come
+run-rest : (r q : ℕ) (next : ℕ → ℕ → Places) → bySymbol (run (suc r) q) next ≡ placeThen (pos 0) (next q r)
+run-rest r q next = ap (λ n. placeThen (pos 0) (next q n)) (less-one r)
+
 -- a run, then what is read behind it
 run-first : (r k : ℕ) (s : Stream) (p : ℕ) (cs : List ℤ) (q′ r′ : ℕ) → r < 2 ^ 56 → At s p (runCode r)
     → readPlaces k s (p + length (runCode r)) 0 ≡ places cs q′ r′
@@ -55,7 +60,7 @@ run-first : (r k : ℕ) (s : Stream) (p : ℕ) (cs : List ℤ) (q′ r′ : ℕ)
 unfolding readPlaces runCode
 run-first zero k s p cs q′ r′ l a e = rw zero-add (rw add-zero at e)
 run-first (suc r) k s p cs q′ r′ l a e =
-    rw (suc-add, run-back s p r l a, less-one r, coming r k s (p + length (runCode (suc r))) cs q′ r′ e)
+    rw (suc-add, run-back s p r l a, run-rest r (p + length (runCode (suc r))) (λ q m. readPlaces (r + k) s q m), coming r k s (p + length (runCode (suc r))) cs q′ r′ e)
 
 -- a value, then what is read behind it
 value-first : (c : ℤ) → Value c → (k : ℕ) (s : Stream) (p : ℕ) (cs : List ℤ) (q′ r′ : ℕ) → At s p (valueCode (codeOf c))

@@ -115,9 +115,9 @@ pub fn encode_slice(
         len: acs.len(),
         at: at.ac,
     };
-    let n = questions::of_call::coding_slice(s, f, rows, dc, ac);
-    if 0 < n {
-        return CodeAnswer::Refused(n, at);
+    let number = questions::of_call::coding_slice(s, f, rows, dc, ac);
+    if 0 < number {
+        return CodeAnswer::Refused(number, at);
     }
     let ends = slice(p0, p1, p2, p3, f, s, dcs, acs, at);
     CodeAnswer::Accepted(ends)

@@ -16,7 +16,7 @@ use Rattle.parser.proofs.streams.Laws.{one-inside, streams-inside, one-
 use Rattle.parser.specs.streams.Streams.{lengthAt, oneStream, streams}
 use Rattle.parser.proofs.head.Laws.{begins-inside}
 use Rattle.parser.specs.head.Header.{formatAt, headerLength, headerQuestions, FrameRead, frameRead}
-use Rattle.parser.specs.Frame.{dcStreams, parseOf, View, streamPart, kindStart, kindLimit, wanted, nthStream, kindView, viewOf}
+use Rattle.parser.specs.Frame.{dcStreams, acThereAt, parseOf, View, streamPart, kindStart, kindLimit, wanted, nthStream, kindView, viewOf}
 use Rattle.parser.specs.Views.{viewSays}
 use Rattle.layout.specs.declared.Kind.{Kind}
 use Rattle.parser.specs.declared.ViewAnswer.{ViewAnswer}
@@ -27,6 +27,13 @@ pub view-told : {r x : ViewAnswer} {a : Answer View} → viewSays r ≡ a → r 
 view-told e d = sym e ∙ ap viewSays d
 
 -- ---- the frame
+module _ (f : List ℕ) {q : ℕ} where
+  ac-none : length f ≤ q → acThereAt f q ≡ false
+  ac-none l = le-ltb q (length f) l
+
+  ac-some : q < length f → acThereAt f q ≡ true
+  ac-some l = lt-ltb q (length f) l
+
 module _ (w h : ℕ) (f : List ℕ) where
   pub frame-no : {n : ℕ} → n ≡ firstNo (headerQuestions w h f) → 0 < n → parseOf w h f ≡ refused n
   unfolding parseOf asked
@@ -40,15 +47,15 @@ module _ (w h : ℕ) (f : List ℕ) where
 
     pub dc-only : {q : ℕ} → dcStreams w h f ≡ accepted q → length f ≤ q → parseOf w h f ≡ accepted (frameRead h f false)
     unfolding parseOf asked
-    dc-only {q} d l = rw (e, d, le-ltb q (length f) l)
+    dc-only d l = rw (e, d, ac-none f l)
 
     pub ac-no : {q n : ℕ} → dcStreams w h f ≡ accepted q → q < length f → streams (sliceCount h) (maxAcLen w) f q ≡ refused n → parseOf w h f ≡ refused n
     unfolding parseOf asked
-    ac-no {q} d l k = rw (e, d, lt-ltb q (length f) l, k)
+    ac-no d l k = rw (e, d, ac-some f l, k)
 
     pub ac-too : {q n : ℕ} → dcStreams w h f ≡ accepted q → q < length f → streams (sliceCount h) (maxAcLen w) f q ≡ accepted n → parseOf w h f ≡ accepted (frameRead h f true)
     unfolding parseOf asked
-    ac-too {q} d l k = rw (e, d, lt-ltb q (length f) l, k)
+    ac-too d l k = rw (e, d, ac-some f l, k)
 
 -- the code's walks are the definitions' walks
 module _ (w h : ℕ) (f : List ℕ) {slices : ℕ} {a : Answer ℕ} where
