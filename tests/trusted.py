@@ -51,6 +51,11 @@ def words_of(text):
     return {word for word in words if not word.startswith(".")}
 
 
+def spellings(name):
+    """How a name is spelt in a text: an operator `_▸_` is taken by that name, and stands there as `▸`."""
+    return {name, name.strip("_")} - {""}
+
+
 class Definitions:
     """A file: the text of each definition, which definition a name belongs to, and what is taken from other files."""
 
@@ -59,9 +64,10 @@ class Definitions:
         for public, module, names, alias in USE.findall(read(path)):
             for entry in filter(None, re.split(r",\s*", names.strip() or alias)):
                 own, _, known = entry.partition(" as ")
-                self.taken[known or own] = (module, own if names else None)
-                if public:
-                    self.handed_on.add(known or own)
+                for name in spellings(known or own):
+                    self.taken[name] = (module, own if names else None)
+                    if public:
+                        self.handed_on.add(name)
         current = None
         for line in USE.sub("", read(path)).split("\n"):
             head, member = HEAD.match(line), MEMBER.match(line)
@@ -75,8 +81,8 @@ class Definitions:
                 self.text[current] = self.text.get(current, "") + line + "\n"
 
     def own(self, name, definition):
-        self.owner.setdefault(name, definition)
-        self.owner.setdefault(name.strip("_"), definition)
+        for spelling in spellings(name):
+            self.owner.setdefault(spelling, definition)
 
 
 @lru_cache(None)
