@@ -2,8 +2,8 @@
 """Holds the documents to the tree.
 
     python3 tests/documents.py           says where they differ, and fails then; the gate runs it
-    python3 tests/documents.py --write   writes the parts that are computed: the table of docs/TRUSTED.md and the
-                                         column of edits of docs/PROMISES.md
+    python3 tests/documents.py --write   writes the parts that are computed: the table of docs/TRUSTED.md, the
+                                         column of edits of docs/PROMISES.md, the ranges of docs/SPEED.md
 """
 import re
 import sys
@@ -18,6 +18,7 @@ from trusted import CRATES, ROOT, clauses, crate_of, crates_listed, read
 TRUSTED = ROOT / "docs/TRUSTED.md"
 PROMISES = ROOT / "docs/PROMISES.md"
 ARCHITECTURE = ROOT / "docs/ARCHITECTURE.md"
+SPEED = ROOT / "docs/SPEED.md"
 DECISIONS = ROOT / "docs/DECISIONS.md"
 BEGIN, END = "<!-- computed by tests/documents.py --write -->\n", "\n<!-- computed up to here -->"
 LONGEST = 160
@@ -35,6 +36,27 @@ def trusted_page():
     """The page with its table as it is computed now."""
     before, rest = read(TRUSTED).split(BEGIN)
     return before + BEGIN + trusted.table() + END + rest.split(END)[1]
+
+
+# ---- docs/SPEED.md: the ranges are those of its table
+
+RANGES = {
+    "Coding": r"block (of a slice of three planes )?coded, ",
+    "Reading 8-bit": r"block (of a slice of three planes )?read, 8-bit",
+    "Reading 10-bit": r"block (of a slice of three planes )?read, 10-bit",
+}
+
+
+def speed_page():
+    """The page with the ranges as its table has them: the lowest and the highest ratio to the SSE2 path."""
+    page = read(SPEED)
+    rows = [cells(line) for line in page.split("\n") if line.startswith("| ")]
+    for name, form in RANGES.items():
+        ratios = sorted(row[3] for row in rows if re.match(form, row[0]))
+        page, times = re.subn(rf"(\*\*{name}\*\* takes )[\d.]+ to [\d.]+", rf"\g<1>{ratios[0]} to {ratios[-1]}", page)
+        if times != 1:
+            raise SystemExit(f"documents: docs/SPEED.md says {times} times what **{name}** takes")
+    return page
 
 
 # ---- docs/PROMISES.md: the column of edits is made from the first lines of the edits
@@ -280,9 +302,11 @@ def main(words):
     if words == ["--write"]:
         PROMISES.write_text(promises_page()[0], encoding="utf-8")
         TRUSTED.write_text(trusted_page(), encoding="utf-8")
+        SPEED.write_text(speed_page(), encoding="utf-8")
         read.cache_clear()
     page, problems = promises_page()
-    problems += [*differs(PROMISES, page), *differs(TRUSTED, trusted_page()), *too_long(DECISIONS, 2500)]
+    problems += [*differs(PROMISES, page), *differs(TRUSTED, trusted_page()), *differs(SPEED, speed_page())]
+    problems += too_long(DECISIONS, 2500)
     problems += [*edit_problems(), *crate_problems(), *naming_problems(), *unknown_names(), *trace_problems()]
     problems += [*rows_not_met(), *exports_without_edits(), *long_contract_lines()]
     problems = list(dict.fromkeys(problems))
