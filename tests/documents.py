@@ -144,7 +144,7 @@ def edit_problems():
 
 
 def text_not_met(path, lines):
-    """Each old text has to stand once in its file, the earlier pairs of the edit done."""
+    """Each old text has to be in its file exactly once, after the earlier pairs of the edit."""
     texts, at, old = {}, None, ""
     for line in lines:
         if line.startswith("file: "):

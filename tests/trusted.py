@@ -1,6 +1,6 @@
 """The definitions that must be believed: all that the contracts of the exported functions and demand 3 cite, name by name.
 
-A definition reaches the names that stand in its text and that its file defines or imports. A file counts where a name that
+A definition reaches the names that are in its text and that its file defines or imports. A file counts where a name that
 is reached is defined in it; of a file of code only the types count that definitions take apart.
 """
 import re
@@ -52,7 +52,7 @@ def words_of(text):
 
 
 def spellings(name):
-    """How a name is spelt in a text: an operator `_▸_` is taken by that name, and stands there as `▸`."""
+    """How a name is spelt in a text: an operator is imported as `_▸_` and used as `▸`."""
     return {name, name.strip("_")} - {""}
 
 
@@ -92,7 +92,7 @@ def definitions(path):
 
 def defined_at(module, name):
     """Where a module's name (None: all of them) is defined: pairs of a file and a definition. What is handed on is followed.
-    None stands for the contract of an exported function, which is looked at by itself."""
+    A contract of an exported function gives nothing here: it is looked at by itself."""
     crate, words = re.fullmatch(r"Rattle·(\w+)(?:·\w+)?\.(.+)", module).groups()
     words = words.split(".")
     if words[-1] == "Reads":
