@@ -27,7 +27,8 @@ pub fn put_run_value(a: &mut BitAcc, n: u32, c: u32, out: &mut [u8])
 // Stores the bits that wait, with zero bits up to a byte.
 pub fn align(a: &mut BitAcc, out: &mut [u8])
     requires { ⌜ LastRoom (now a) (now out) ⌝ }
-    ensures { λ _. ⌜ (now (a .exit) ≡ flushed (now (a .entry))) × (now (out .exit) ≡ lay (now (out .entry)) (now (a .entry) .pos) (padToByte (bitsOf (now (a .entry) .nbits) (now (a .entry) .acc)))) ⌝ }
+    ensures { λ _. ⌜ (now (a .exit) ≡ flushed (now (a .entry)))
+        × (now (out .exit) ≡ lay (now (out .entry)) (now (a .entry) .pos) (padToByte (bitsOf (now (a .entry) .nbits) (now (a .entry) .acc)))) ⌝ }
 {
     *a = crate::align(*a, out);
 }

@@ -30,7 +30,8 @@ pub fn fdct_quant_zig(block: [i16; 64], add: i16, shift: u32, k: &[u16; 192]) ->
 // The quantised coefficients of the 8-bit block at the corner of rows, in scan order.
 pub fn fdct_quant_zig8(rows: &[u8], stride: usize, level: u16, k: &[u16; 192]) -> [i16; 64]
     requires { ⌜ (7 * stride + 8 ≤ length (now rows)) × ((level < 32768) × Encodes (now k)) ⌝ }
-    ensures { λ r. ⌜ EveryPreset (now (k .entry)) (λ preset. r ≡ scanOf (quantiseOf preset (forwardOf false (pos level) (lanes8Of (now (rows .entry)) stride)))) ⌝ }
+    ensures { λ r. ⌜ EveryPreset (now (k .entry)) (λ preset. r
+        ≡ scanOf (quantiseOf preset (forwardOf false (pos level) (lanes8Of (now (rows .entry)) stride)))) ⌝ }
 {
     let add = negated(level);
     let block = fdct::load::load8(rows, stride);
@@ -40,7 +41,8 @@ pub fn fdct_quant_zig8(rows: &[u8], stride: usize, level: u16, k: &[u16; 192]) -
 // The quantised coefficients of the 10-bit block at the corner of rows, in scan order.
 pub fn fdct_quant_zig16(rows: &[u16], stride: usize, level: u16, k: &[u16; 192]) -> [i16; 64]
     requires { ⌜ (7 * stride + 8 ≤ length (now rows)) × ((level < 32768) × Encodes (now k)) ⌝ }
-    ensures { λ r. ⌜ EveryPreset (now (k .entry)) (λ preset. r ≡ scanOf (quantiseOf preset (forwardOf true (pos level) (lanes16Of (now (rows .entry)) stride)))) ⌝ }
+    ensures { λ r. ⌜ EveryPreset (now (k .entry)) (λ preset. r
+        ≡ scanOf (quantiseOf preset (forwardOf true (pos level) (lanes16Of (now (rows .entry)) stride)))) ⌝ }
 {
     let add = negated(level);
     let block = fdct::load::load16(rows, stride);
