@@ -218,7 +218,7 @@ def rows_not_met():
 
 def paths_in(text):
     """The names with a path that begins with a crate."""
-    names = re.findall(r"`([a-z_0-9]+(?:::\w+)+)", text)
+    names = re.findall(r"(?<![\w:])([a-z_0-9]+(?:::\w+)+)", text)
     return [name for name in names if name.split("::")[0] not in NO_CRATE]
 
 
