@@ -2,8 +2,8 @@
 """Holds the documents to the tree.
 
     python3 tests/documents.py           says where they differ, and fails then; the gate runs it
-    python3 tests/documents.py --write   writes the parts that are computed: the table of docs/TRUSTED.md and the
-                                         column of edits of docs/PROMISES.md
+    python3 tests/documents.py --write   writes the parts that are computed: the table of docs/TRUSTED.md, the
+                                         column of edits of docs/PROMISES.md, the ranges of docs/SPEED.md
 """
 import re
 import sys
@@ -17,6 +17,8 @@ from trusted import CRATES, ROOT, clauses, crate_of, crates_listed, read
 
 TRUSTED = ROOT / "docs/TRUSTED.md"
 PROMISES = ROOT / "docs/PROMISES.md"
+ARCHITECTURE = ROOT / "docs/ARCHITECTURE.md"
+SPEED = ROOT / "docs/SPEED.md"
 DECISIONS = ROOT / "docs/DECISIONS.md"
 BEGIN, END = "<!-- computed by tests/documents.py --write -->\n", "\n<!-- computed up to here -->"
 LONGEST = 160
@@ -34,6 +36,27 @@ def trusted_page():
     """The page with its table as it is computed now."""
     before, rest = read(TRUSTED).split(BEGIN)
     return before + BEGIN + trusted.table() + END + rest.split(END)[1]
+
+
+# ---- docs/SPEED.md: the ranges are those of its table
+
+RANGES = {
+    "Coding": r"block (of a slice of three planes )?coded, ",
+    "Reading 8-bit": r"block (of a slice of three planes )?read, 8-bit",
+    "Reading 10-bit": r"block (of a slice of three planes )?read, 10-bit",
+}
+
+
+def speed_page():
+    """The page with the ranges as its table has them: the lowest and the highest ratio to the SSE2 path."""
+    page = read(SPEED)
+    rows = [cells(line) for line in page.split("\n") if line.startswith("| ")]
+    for name, form in RANGES.items():
+        ratios = sorted(row[3] for row in rows if re.match(form, row[0]))
+        page, times = re.subn(rf"(\*\*{name}\*\* takes )[\d.]+ to [\d.]+", rf"\g<1>{ratios[0]} to {ratios[-1]}", page)
+        if times != 1:
+            raise SystemExit(f"documents: docs/SPEED.md says {times} times what **{name}** takes")
+    return page
 
 
 # ---- docs/PROMISES.md: the column of edits is made from the first lines of the edits
@@ -74,13 +97,18 @@ def edits():
     return sorted(CRATES.glob("*/must-fail/*.edit"))
 
 
+def functions_of(path):
+    """The functions that an edit's first line names."""
+    head = re.match(r"# (\S.*?): ", read(path))
+    return head.group(1).split(", ") if head else []
+
+
 def promises_page():
     """The page with its column of edits as the edits have it now, and what is wrong with it."""
     rows, problems = list(promise_rows()), []
     shown = {number: [] for number, _, _ in rows}
     for path in edits():
-        head = re.match(r"# (\S.*?): ", read(path))
-        for name in head.group(1).split(", ") if head else []:
+        for name in functions_of(path):
             met = rows_of(name, crate_of(path), rows)
             if len(met) != 1:
                 problems.append(f"{named(path)}: {name} is in {len(met)} rows of docs/PROMISES.md")
@@ -116,7 +144,7 @@ def edit_problems():
 
 
 def text_not_met(path, lines):
-    """Each old text has to stand once in its file, the earlier pairs of the edit done."""
+    """Each old text has to be in its file exactly once, after the earlier pairs of the edit."""
     texts, at, old = {}, None, ""
     for line in lines:
         if line.startswith("file: "):
@@ -160,15 +188,49 @@ def naming_problems():
                 yield f"{named(path)}:{number}: {wrong}"
 
 
+def file_of(name):
+    """The file in which a name of a crate has to be: that of its module, or of the module whose name is passed on there. A
+    type's function is where the type is."""
+    crate, *modules, last = name.split("::")
+    if modules and modules[-1][0].isupper():
+        modules.pop()
+    file = CRATES / crate / "src" / ("/".join(modules or ["lib"]) + ".rt")
+    passed_on = re.search(rf"^pub use crate::([\w:]+)::{last};", read(file), re.M) if file.is_file() else None
+    return file_of(f"{crate}::{passed_on.group(1)}::{last}") if passed_on else file
+
+
 def missing_functions(line):
-    for name in re.findall(r"`([a-z_0-9]+(?:::\w+)+)", line):
-        crate, *_, last = name.split("::")
-        if crate in NO_CRATE:
-            continue
-        if not (CRATES / crate).is_dir():
-            yield f"`{name}`: there is no crate {crate}"
-        elif not any(re.search(rf"\b(fn|struct|enum|const|mod) {last}\b", read(file)) for file in (CRATES / crate / "src").glob("**/*.rt")):
-            yield f"`{name}`: crate {crate} has no {last}"
+    for name in paths_in(line):
+        file, last = file_of(name), name.split("::")[-1]
+        if not file.is_file():
+            yield f"`{name}`: there is no {named(file)}"
+        elif not re.search(rf"\b(fn|struct|enum|const|mod) {last}\b", read(file)):
+            yield f"`{name}`: {named(file)} has no {last}"
+
+
+def rows_not_met():
+    """The functions of the tables of promises are there, also those that have their path from the name before."""
+    for number, names, _ in promise_rows():
+        for name in names:
+            for wrong in missing_functions(f"`{name}`"):
+                yield f"docs/PROMISES.md:{number + 1}: {wrong}"
+
+
+def paths_in(text):
+    """The names with a path that begins with a crate."""
+    names = re.findall(r"(?<![\w:])([a-z_0-9]+(?:::\w+)+)", text)
+    return [name for name in names if name.split("::")[0] not in NO_CRATE]
+
+
+def trace_problems():
+    """The traces of docs/ARCHITECTURE.md name the file of each function."""
+    for number, line in enumerate(read(ARCHITECTURE).split("\n"), 1):
+        columns = cells(line) if line.startswith("|") else []
+        if len(columns) == 3 and columns[1].startswith("`"):
+            files = {named(file_of(name)) for name in paths_in(columns[1])}
+            said = set(columns[2].split(", "))
+            if files and files != said:
+                yield f"docs/ARCHITECTURE.md:{number}: the files of these functions are {', '.join(sorted(files))}"
 
 
 def missing_files(line):
@@ -189,6 +251,25 @@ def unknown_names():
         for text in re.findall(r"`([^`]+)`", line) if line.startswith("|") else []:
             for word in set(re.findall(r"[^\W\d][\w'-]*", text)) - words_of_crates():
                 yield f"docs/PROMISES.md:{number}: nothing is called {word}"
+
+
+# ---- the exported functions
+
+
+def exported():
+    for path in sorted((CRATES / "vmx/src").glob("**/*.rt")):
+        yield from re.findall(r"#\[no_mangle\]\s+pub extern \"C\" fn (\w+)", read(path))
+
+
+def exports_without_edits():
+    """Each exported function has a row in docs/PROMISES.md, and two edits or more name it."""
+    known = {name for _, names, _ in promise_rows() for name in names}
+    tried = [name for path in edits() for name in functions_of(path)]
+    for name in exported():
+        if name not in known:
+            yield f"docs/PROMISES.md has no row for {name}"
+        if tried.count(name) < 2:
+            yield f"{name} is exported, and {tried.count(name)} edits name it: two are needed"
 
 
 # ---- contracts
@@ -221,10 +302,14 @@ def main(words):
     if words == ["--write"]:
         PROMISES.write_text(promises_page()[0], encoding="utf-8")
         TRUSTED.write_text(trusted_page(), encoding="utf-8")
+        SPEED.write_text(speed_page(), encoding="utf-8")
         read.cache_clear()
     page, problems = promises_page()
-    problems += [*differs(PROMISES, page), *differs(TRUSTED, trusted_page()), *too_long(DECISIONS, 2500)]
-    problems += [*edit_problems(), *crate_problems(), *naming_problems(), *unknown_names(), *long_contract_lines()]
+    problems += [*differs(PROMISES, page), *differs(TRUSTED, trusted_page()), *differs(SPEED, speed_page())]
+    problems += too_long(DECISIONS, 2500)
+    problems += [*edit_problems(), *crate_problems(), *naming_problems(), *unknown_names(), *trace_problems()]
+    problems += [*rows_not_met(), *exports_without_edits(), *long_contract_lines()]
+    problems = list(dict.fromkeys(problems))
     for problem in problems:
         print(f"documents: {problem}")
     print(f"documents: {len(problems)} problems" if problems else "documents: all as the tree has it")

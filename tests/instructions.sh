@@ -4,6 +4,7 @@
 # margins are in hundredths of the Rust's. (A frame built: where the processor has it, the Rust's memcpy of a long stream is
 # one rep movsb, which is counted by the byte: so only a copy by single bytes, of several instructions each, is seen.)
 set -euo pipefail
+shopt -s inherit_errexit # a command that fails inside $(..) ends the test
 cd "$(dirname "$0")/.."
 oracle=oracle/target/release/oracle
 if ! command -v valgrind >/dev/null; then
@@ -11,14 +12,23 @@ if ! command -v valgrind >/dev/null; then
     if [ "${CI:-}" = true ]; then exit 1; fi
     exit 0
 fi
+# Ends the test unless $3, a count of `$1 $2`, is a number above 0.
+counted() {
+    [[ $3 =~ ^[1-9][0-9]*$ ]] || { echo "instructions: $1 $2: '$3' is no count" >&2; exit 1; }
+}
 # The cost of one more turn: eleven less one, over ten.
 count() {
     local n all=()
     for n in 1 11; do
-        valgrind --tool=callgrind --callgrind-out-file=/dev/null "$oracle" work "$1" "$2" "$n" 2>target/instructions.log
+        valgrind --tool=callgrind --callgrind-out-file=/dev/null "$oracle" work "$1" "$2" "$n" 2>target/instructions.log ||
+            { cat target/instructions.log >&2; exit 1; }
         all+=("$(awk '/Collected/ { print $NF }' target/instructions.log)")
     done
-    echo $(((all[1] - all[0]) / 10))
+    counted "$1" "$2" "${all[0]}"
+    counted "$1" "$2" "${all[1]}"
+    n=$(((all[1] - all[0]) / 10))
+    counted "$1" "$2" "$n"
+    echo "$n"
 }
 mkdir -p target
 while read -r what margin; do

@@ -1,6 +1,6 @@
 """The definitions that must be believed: all that the contracts of the exported functions and demand 3 cite, name by name.
 
-A definition reaches the names that stand in its text and that its file defines or imports. A file counts where a name that
+A definition reaches the names that are in its text and that its file defines or imports. A file counts where a name that
 is reached is defined in it; of a file of code only the types count that definitions take apart.
 """
 import re
@@ -51,6 +51,11 @@ def words_of(text):
     return {word for word in words if not word.startswith(".")}
 
 
+def spellings(name):
+    """How a name is spelt in a text: an operator is imported as `_▸_` and used as `▸`."""
+    return {name, name.strip("_")} - {""}
+
+
 class Definitions:
     """A file: the text of each definition, which definition a name belongs to, and what is taken from other files."""
 
@@ -59,9 +64,10 @@ class Definitions:
         for public, module, names, alias in USE.findall(read(path)):
             for entry in filter(None, re.split(r",\s*", names.strip() or alias)):
                 own, _, known = entry.partition(" as ")
-                self.taken[known or own] = (module, own if names else None)
-                if public:
-                    self.handed_on.add(known or own)
+                for name in spellings(known or own):
+                    self.taken[name] = (module, own if names else None)
+                    if public:
+                        self.handed_on.add(name)
         current = None
         for line in USE.sub("", read(path)).split("\n"):
             head, member = HEAD.match(line), MEMBER.match(line)
@@ -75,8 +81,8 @@ class Definitions:
                 self.text[current] = self.text.get(current, "") + line + "\n"
 
     def own(self, name, definition):
-        self.owner.setdefault(name, definition)
-        self.owner.setdefault(name.strip("_"), definition)
+        for spelling in spellings(name):
+            self.owner.setdefault(spelling, definition)
 
 
 @lru_cache(None)
@@ -86,7 +92,7 @@ def definitions(path):
 
 def defined_at(module, name):
     """Where a module's name (None: all of them) is defined: pairs of a file and a definition. What is handed on is followed.
-    None stands for the contract of an exported function, which is looked at by itself."""
+    A contract of an exported function gives nothing here: it is looked at by itself."""
     crate, words = re.fullmatch(r"Rattle·(\w+)(?:·\w+)?\.(.+)", module).groups()
     words = words.split(".")
     if words[-1] == "Reads":

@@ -13,19 +13,18 @@ vmx="$CARGO_TARGET_DIR/release/vmx"
 "$vmx" fuzz "${FUZZ:-5000}" 1
 
 # README's examples in C and Rust: compiled, with warnings as errors, and run.
-block() { awk -v from="\`\`\`$1" '$0 == from { on = 1; next } /^```/ { on = 0 } on' README.md; }
-block c >target/users/readme.c
-if [ -s target/users/readme.c ]; then
-    gcc -std=c99 -Wall -Wextra -Werror -Iinclude target/users/readme.c target/staticlib/libvmx.a -o target/users/readme_c
-    target/users/readme_c
-fi
-block rust >target/users/readme.rs
-if [ -s target/users/readme.rs ]; then
-    cargo build --release --locked --offline --quiet --manifest-path bindings/rust/Cargo.toml
-    rustc --edition 2021 -D warnings -O target/users/readme.rs --extern vmx="$CARGO_TARGET_DIR/release/libvmx.rlib" \
-        -o target/users/readme_rust
-    target/users/readme_rust
-fi
+block() {
+    awk -v from="\`\`\`$1" '$0 == from { on = 1; next } /^```/ { on = 0 } on' README.md >"$2"
+    [ -s "$2" ] || { echo "users: README.md has no example in $1"; exit 1; }
+}
+block c target/users/readme.c
+gcc -std=c99 -Wall -Wextra -Werror -Iinclude target/users/readme.c target/staticlib/libvmx.a -o target/users/readme_c
+target/users/readme_c
+block rust target/users/readme.rs
+cargo build --release --locked --offline --quiet --manifest-path bindings/rust/Cargo.toml
+rustc --edition 2021 -D warnings -O target/users/readme.rs --extern vmx="$CARGO_TARGET_DIR/release/libvmx.rlib" \
+    -o target/users/readme_rust
+target/users/readme_rust
 
 # ffmpeg's test source there and back; the PSNR in dB that each quality must reach, a little below what it does reach.
 if ! command -v ffmpeg >/dev/null; then
