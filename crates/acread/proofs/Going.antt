@@ -8,7 +8,7 @@ use Rattle.bitreader.specs.Cursor.{At, NextSymbol}
 use Rattle.bitreader.specs.declared.AcCursor.{AcCursor}
 use Rattle.bitreader.specs.declared.Got.{Got}
 use Rattle.calls.specs.ReadPlane.{readPlaces}
-use Rattle.acread.specs.Block.{spanOf, endsOf, BlockEnded, Ready, ends, badEnds, blockSays}
+use Rattle.acread.specs.Block.{spanOf, endsOf, BlockEnded, ends, badEnds, blockSays, AcReady}
 use Rattle.acread.specs.declared.BlockEnd.{BlockEnd}
 use Rattle.acread.specs.declared.BlockEnd.the-variants as end
 use Rattle.acread.proofs.Turn.{start, turn, stop, over}

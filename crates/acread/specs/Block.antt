@@ -34,11 +34,11 @@ blockSays (end.At c n) = ends (c .pos) n
 blockSays end.Bad = badEnds
 
 -- a cursor behind the block at p: at most 64 codes of 112 bits were read
-pub record Ready (s : List ℕ) (p : ℕ) (c : AcCursor) (n : ℕ) : Type 0 where
+pub record AcReady (s : List ℕ) (p : ℕ) (c : AcCursor) (n : ℕ) : Type 0 where
   pub holds : At s c
   pub near : c .pos ≤ p + 7168
   pub few : n < 2 ^ 57
 
 pub record BlockEnded (s : List ℕ) (p r : ℕ) (e : BlockEnd) : Type 0 where
   pub answer : blockSays e ≡ endsOf (readPlaces 64 (bitAt s) p r)
-  pub ready : (c : AcCursor) (n : ℕ) → e ≡ end.At c n → Ready s p c n
+  pub ready : (c : AcCursor) (n : ℕ) → e ≡ end.At c n → AcReady s p c n

@@ -11,7 +11,7 @@ use lib.Count.{leadingZeros}
 use Rattle.bits.specs.Bits.{bit, bitAt, Stream, num}
 use Rattle.bits.specs.Read.{zeros, readTail, readSymbol, readDc}
 use Rattle.bitreader.specs.words.Word.{Holds, numberOf}
-use Rattle.bitreader.specs.Cursor.{At, symbolBy, symbolOf, dcBy, dcOf, Next, Looked, Long}
+use Rattle.bitreader.specs.Cursor.{At, symbolBy, symbolOf, dcBy, Next, Looked, Long, dcCodeOf}
 use Rattle.bitreader.specs.declared.AcCursor.{AcCursor}
 use Rattle.bitreader.specs.declared.Got.{Got}
 use Rattle.bitreader.proofs.words.Num.{num-lt, zeros-more, zeros-one, zeros-all}
@@ -177,7 +177,7 @@ module _ (s : List ℕ) (c : AcCursor) (l : Got) (look : Looked s c 0 l) (none :
   pub dc-next : Next s c g
   dc-next = long-next s c 0 l look none v g far is0 no-head
 
-  pub dc-answer : dcOf g ≡ readDc (bitAt s) (c .pos)
+  pub dc-answer : dcCodeOf g ≡ readDc (bitAt s) (c .pos)
   dc-answer =
       ap₂ (λ (x y : ℕ). dcBy x y (g .c .pos)) (far .number) (far .head) ∙ ⊎-elim
       (λ h. dc-long (bitAt s) (c .pos) v (g .c .pos) zero-here (answer s c 0 l look none v g far is0 no-head) h (goes s c 0 l look none v g far is0 no-head h))

@@ -30,8 +30,8 @@ dcBy zero r q = badDc
 dcBy (suc n) zero q = step (suc n) q
 dcBy (suc n) (suc r) q = zeroStep q
 
-abbrev pub dcOf : Got → DcCode
-dcOf g = dcBy (g .num) (g .run) (g .c .pos)
+abbrev pub dcCodeOf : Got → DcCode
+dcCodeOf g = dcBy (g .num) (g .run) (g .c .pos)
 
 -- what holds of all that is got at the cursor c: the next cursor, at most 112 bits on; the head bit; a number of at most 56 bits
 pub record Next (s : List ℕ) (c : AcCursor) (g : Got) : Type 0 where
@@ -46,7 +46,7 @@ pub record NextSymbol (s : List ℕ) (c : AcCursor) (g : Got) : Type 0 where
 
 pub record NextDc (s : List ℕ) (c : AcCursor) (g : Got) : Type 0 where
   pub next : Next s c g
-  pub answer : dcOf g ≡ readDc (bitAt s) (c .pos)
+  pub answer : dcCodeOf g ≡ readDc (bitAt s) (c .pos)
 
 -- ---- inner functions
 

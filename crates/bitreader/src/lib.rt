@@ -9,7 +9,7 @@ ghost use Rattle.bits.specs.Bits.{bitAt, bytesFor};
 ghost use Rattle.bits.specs.Read.{readTail, readSymbol, readDc};
 ghost use Rattle.bits.specs.Signed.{signedOf};
 ghost use Rattle.bitreader.specs.words.Word.{numberOf};
-ghost use Rattle.bitreader.specs.Cursor.{At, symbolOf, dcOf, NextSymbol, NextDc, Looked, Long};
+ghost use Rattle.bitreader.specs.Cursor.{At, symbolOf, NextSymbol, NextDc, Looked, Long, dcCodeOf};
 
 // A place in a stream, with the next bits at the top of a word.
 pub struct AcCursor {
@@ -105,7 +105,7 @@ fn quick(s: &[u8], c0: AcCursor) -> Got
 // The same of the DC stream, where the head's second bit counts for nothing.
 fn quick_dc(s: &[u8], c0: AcCursor) -> Got
     requires { ⌜ At (now s) c0 × (c0 .pos < 2 ^ 60) ⌝ }
-    ensures { λ r. ⌜ Looked (now (s .entry)) c0 0 r × (0 < r .num → dcOf r ≡ readDc (bitAt (now (s .entry))) (c0 .pos)) ⌝ }
+    ensures { λ r. ⌜ Looked (now (s .entry)) c0 0 r × (0 < r .num → dcCodeOf r ≡ readDc (bitAt (now (s .entry))) (c0 .pos)) ⌝ }
 {
     let c = filled(s, c0);
     let run = c.bits >> 63;

@@ -10,7 +10,7 @@ use Rattle.scalar.specs.Scalar.{addsOf, mulloOf, sraOf}
 use Rattle.scalar.proofs.Fill.{getD-tab, tab-ext}
 use Rattle.irow.specs.RowPass.{lane}
 use Rattle.irow.specs.Stages.{shiftedOf}
-use Rattle.paint.specs.Paint.{storeBlock, sampleAt}
+use Rattle.paint.specs.Paint.{storeBlock, sampleInBlock}
 use Rattle.paint.specs.Samples.{sampleOf}
 use Rattle.paint.proofs.Pixels.{store-ext}
 use Rattle.quant.specs.Quantise.{coefficient, dequantised, dequantiseWith, dequantShift, dequantiseOf}
@@ -46,11 +46,11 @@ level-at level v i h = getD-tab 64 (λ i. addsOf (lane v i) level) i (pos 0) h
 
 -- the samples of a block's numbers
 pub store-law : (ten : Bool) (stride : ℕ) (level : ℤ) (v : List ℤ) (l : List ℕ) {p : List ℕ} → p ≡ samplesOf ten (levelAddedOf level v)
-    → storeBlock stride (sampleAt p) l ≡ storeBlock stride (numberSample ten level v) l
+    → storeBlock stride (sampleInBlock p) l ≡ storeBlock stride (numberSample ten level v) l
 unfolding numberSample
 store-law ten stride level v l e =
     rw e
-    (store-ext stride (sampleAt (samplesOf ten (levelAddedOf level v))) (λ i. numberSample ten level v i) l
+    (store-ext stride (sampleInBlock (samplesOf ten (levelAddedOf level v))) (λ i. numberSample ten level v i) l
     (λ i h. sample-at ten (levelAddedOf level v) i h ∙ ap (sampleOf ten) (level-at level v i h)))
 
 -- the numbers' samples are the block's

@@ -4,7 +4,7 @@ ghost use mathlib.Core.List.{[], _∷_};
 ghost use Rattle.calls.specs.Arguments.{ten, buffers};
 ghost use Rattle.calls.specs.Views.{positionsBy, planeCall, sliceCall};
 ghost use Rattle.slice.specs.Calls.{decode};
-ghost use Rattle.questions.specs.answers.Read.{answered};
+ghost use Rattle.questions.specs.answers.Read.{readSays};
 ghost use Rattle.decoder.specs.Storing.{SliceGood, SliceStored};
 use calls::Four;
 use calls::Positions;
@@ -21,7 +21,7 @@ pub fn decode_plane(
     ac: &[u8],
     at: Positions,
 ) -> ReadAnswer
-    ensures { λ r. ⌜ answered r (now (rows .exit) ∷ [])
+    ensures { λ r. ⌜ readSays r (now (rows .exit) ∷ [])
         ≡ decode (planeCall ten s h (now (rows .entry))) (buffers (now (dc .entry)) (now (ac .entry))) (positionsBy at) ⌝ }
 {
     let n = judge::verdict::plane(s, h, rows.len(), dc, ac, at);
@@ -95,7 +95,7 @@ pub fn decode_slice(
     ac: &[u8],
     at: Positions,
 ) -> ReadAnswer
-    ensures { λ r. ⌜ answered r (now (p0 .exit) ∷ now (p1 .exit) ∷ now (p2 .exit) ∷ now (p3 .exit) ∷ [])
+    ensures { λ r. ⌜ readSays r (now (p0 .exit) ∷ now (p1 .exit) ∷ now (p2 .exit) ∷ now (p3 .exit) ∷ [])
         ≡ decode (sliceCall ten s f (now (p0 .entry)) (now (p1 .entry)) (now (p2 .entry)) (now (p3 .entry)))
         (buffers (now (dc .entry)) (now (ac .entry))) (positionsBy at) ⌝ }
 {

@@ -19,12 +19,12 @@ use Rattle.irow.specs.RowPass.{lane, inverseRowsOf}
 use Rattle.irow.specs.Stages.{pairUpOf, shiftedOf, inverseMirrorOf, pairedRows, inverseTab}
 use Rattle.irow.proofs.Pass.{rows-law, shift-law}
 use Rattle.paint.specs.Samples.{tenOf, sampleOf, flatSample}
-use Rattle.paint.specs.Paint.{sampleAt}
 use Rattle.idct.specs.columns.Columns.{eightAt, inverseColumnAt, inverseColumnsOf, levelAddedOf}
 use Rattle.idct.proofs.columns.Mirror.{columns-mirror}
 use Rattle.idct.proofs.columns.Level.{columns-level}
 use Rattle.idct.specs.Inverse.{rowRound, rowShift, colRound, colCorr, colShift, roundingsOf, inverseOf, samplesOf}
 use Rattle.idct.specs.declared.Roundings.{Roundings}
+use Rattle.paint.specs.Paint.{sampleInBlock}
 
 pub length-columns : (round corr : ℤ) (shift : ℕ) (level : ℤ) (w : List ℤ) → length (inverseColumnsOf round corr shift level w) ≡ 64
 unfolding inverseColumnsOf
@@ -39,7 +39,7 @@ unfolding samplesOf
 length-samples ten v = length-tab 64 (λ i. sampleOf ten (lane v i))
 
 -- a block's sample is that of its number
-pub sample-at : (ten : Bool) (v : List ℤ) (i : ℕ) → i < 64 → sampleAt (samplesOf ten v) i ≡ sampleOf ten (lane v i)
+pub sample-at : (ten : Bool) (v : List ℤ) (i : ℕ) → i < 64 → sampleInBlock (samplesOf ten v) i ≡ sampleOf ten (lane v i)
 unfolding samplesOf
 sample-at ten v i h = getD-tab 64 (λ i. sampleOf ten (lane v i)) i 0 h
 

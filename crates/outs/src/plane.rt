@@ -12,8 +12,8 @@ ghost use Rattle.questions.specs.answers.Size.{sizeSays};
 ghost use Rattle.preview.specs.Answer.{previewSays};
 ghost use Rattle.preview.specs.report.Report.{reportSays};
 ghost use Rattle.outs.specs.plane.Planes.{codedAs, decodedAs, previewedAs, reportedAs, sizedAs};
-ghost use Rattle.questions.specs.answers.Code.{answered as codedAnswered};
-ghost use Rattle.questions.specs.answers.Read.{answered as readAnswered};
+ghost use Rattle.questions.specs.answers.Code.{codeSays};
+ghost use Rattle.questions.specs.answers.Read.{readSays};
 
 // A number returned, and both positions into their places.
 fn positions_out(number: u32, at: Positions, dc_at: &mut usize, ac_at: &mut usize) -> u32
@@ -27,7 +27,7 @@ fn positions_out(number: u32, at: Positions, dc_at: &mut usize, ac_at: &mut usiz
 // Of a coding call: both positions, as they were given where it is refused.
 pub fn coded_out(answer: CodeAnswer, dc_at: &mut usize, ac_at: &mut usize) -> u32
     ensures { λ r. ⌜ ((dcs : List ℕ) (acs : List ℕ)
-        → codedAs r (now («dc_at» .exit)) (now («ac_at» .exit)) dcs acs ≡ codedAnswered answer dcs acs) ⌝ }
+        → codedAs r (now («dc_at» .exit)) (now («ac_at» .exit)) dcs acs ≡ codeSays answer dcs acs) ⌝ }
 {
     match answer {
         CodeAnswer::Refused(number, start) => positions_out(number, start, dc_at, ac_at),
@@ -38,7 +38,7 @@ pub fn coded_out(answer: CodeAnswer, dc_at: &mut usize, ac_at: &mut usize) -> u3
 // Of a reading call.
 pub fn read_out(answer: ReadAnswer, dc_at: &mut usize, ac_at: &mut usize) -> u32
     ensures { λ r. ⌜ ((lent : List (List ℕ))
-        → decodedAs r (now («dc_at» .exit)) (now («ac_at» .exit)) lent ≡ readAnswered answer lent) ⌝ }
+        → decodedAs r (now («dc_at» .exit)) (now («ac_at» .exit)) lent ≡ readSays answer lent) ⌝ }
 {
     match answer {
         ReadAnswer::Refused(number, start) => positions_out(number, start, dc_at, ac_at),

@@ -8,7 +8,7 @@ use lib.Arith.{digits-div, digits-mod}
 use lib.Dec.{ltb}
 use lib.ListN.{length, getD, set, replicate, getD-replicate}
 use borrow.Author.Tests.{lt-ltb, le-ltb}
-use Rattle.paint.specs.Paint.{over, pickN, both, sampleAt, storeBlock}
+use Rattle.paint.specs.Paint.{over, pickN, both, storeBlock, sampleInBlock}
 use Rattle.paint.specs.row.Row.{putRow}
 use Rattle.paint.proofs.Over.{by-eq, by-lt, over-set, over-none, over-by, getD-over, length-over}
 
@@ -68,32 +68,32 @@ pub store-length : (stride : ℕ) (s : ℕ → ℕ) (l : List ℕ) → length (s
 store-length stride s l = ap length (sym (put-all stride s l)) ∙ length-over (painted stride s 64) 0 l
 
 module _ (stride : ℕ) (p l : List ℕ) (wide : 8 ≤ stride) (room : 7 * stride + 8 ≤ length l) where
-  pub put-none : l ≡ over (painted stride (sampleAt p) 0) 0 l
+  pub put-none : l ≡ over (painted stride (sampleInBlock p) 0) 0 l
   put-none =
-      over-none (painted stride (sampleAt p) 0) l
+      over-none (painted stride (sampleInBlock p) 0) l
       (λ n h. by-lt (n % stride) 8 (λ k. simp (lt-ltb _ _ k, le-ltb (n / stride * 8 + n % stride) 0 (omega arith))) (λ k. simp (le-ltb _ _ k)))
 
   pub inside : (i j : ℕ) → i < 8 → j < 8 → i * stride + j < length l
   inside i j hi hj = omega (arith, mul-le-mul-right {m = i} {n = 7} stride (omega arith))
 
   step : (i j q m k : ℕ) → i < 8 → j < 8 → q ≡ i * stride + j → m ≡ i * 8 + j → k ≡ m + 1
-      → set (over (painted stride (sampleAt p) m) 0 l) q (getD p m 0) ≡ over (painted stride (sampleAt p) k) 0 l
+      → set (over (painted stride (sampleInBlock p) m) 0 l) q (getD p m 0) ≡ over (painted stride (sampleInBlock p) k) 0 l
   step i j q m k hi hj eq em ek =
       let d : q / stride ≡ i = rw eq (digits-div i (omega arith)) in
       let r : q % stride ≡ j = rw eq (digits-mod i (omega arith)) in
       let u : i * 8 + j < m + 1 = omega arith in
       rw ek
-      (over-set (painted stride (sampleAt p) m) (painted stride (sampleAt p) (m + 1)) l q (getD p m 0) (rw eq (inside i j hi hj))
+      (over-set (painted stride (sampleInBlock p) m) (painted stride (sampleInBlock p) (m + 1)) l q (getD p m 0) (rw eq (inside i j hi hj))
       (rw (d, r, ← em) (simp (lt-ltb _ _ hj, lt-ltb m (m + 1) (omega arith))))
-      (λ n h ne. other stride (sampleAt p) i j m n (getD l n 0) hj em (λ e. ne (e ∙ sym eq))))
+      (λ n h ne. other stride (sampleInBlock p) i j m n (getD l n 0) hj em (λ e. ne (e ∙ sym eq))))
 
   -- one row of eight
-  pub put-row : (i : ℕ) (y : List ℕ) {z : List ℕ} → i < 8 → y ≡ over (painted stride (sampleAt p) (i * 8)) 0 l → z ≡ putRow y (i * stride) p (i * 8)
-      → z ≡ over (painted stride (sampleAt p) ((i + 1) * 8)) 0 l
+  pub put-row : (i : ℕ) (y : List ℕ) {z : List ℕ} → i < 8 → y ≡ over (painted stride (sampleInBlock p) (i * 8)) 0 l → z ≡ putRow y (i * stride) p (i * 8)
+      → z ≡ over (painted stride (sampleInBlock p) ((i + 1) * 8)) 0 l
   put-row i y {z} hi ey ez =
       let at = i * stride in
       let o = i * 8 in
-      let c1 : set y (i * stride) (getD p (i * 8) 0) ≡ over (painted stride (sampleAt p) (i * 8 + 1)) 0 l =
+      let c1 : set y (i * stride) (getD p (i * 8) 0) ≡ over (painted stride (sampleInBlock p) (i * 8 + 1)) 0 l =
       rw ey (step i 0 (i * stride) (i * 8) (i * 8 + 1) hi (omega arith) (omega arith) (omega arith) refl) in
       let c2 = ap (λ (x : List ℕ). set x (i * stride + 1) (getD p (i * 8 + 1) 0)) c1 ∙ step i 1 (i * stride + 1) (i * 8 + 1) (i * 8 + 2) hi (omega arith) refl refl (omega arith) in
       let c3 = ap (λ (x : List ℕ). set x (i * stride + 2) (getD p (i * 8 + 2) 0)) c2 ∙ step i 2 (i * stride + 2) (i * 8 + 2) (i * 8 + 3) hi (omega arith) refl refl (omega arith) in
@@ -106,8 +106,8 @@ module _ (stride : ℕ) (p l : List ℕ) (wide : 8 ≤ stride) (room : 7 * strid
       ∙ step i 7 (i * stride + 7) (i * 8 + 7) ((i + 1) * 8) hi (omega arith) refl refl (omega arith)
 
 -- one sample, 64 times
-pub all-same : (v i : ℕ) → i < 64 → sampleAt (replicate 64 v) i ≡ v
+pub all-same : (v i : ℕ) → i < 64 → sampleInBlock (replicate 64 v) i ≡ v
 all-same v i h = getD-replicate 64 i v 0 h
 
-pub flat-block : (stride : ℕ) (l : List ℕ) {v w : ℕ} → v ≡ w → storeBlock stride (sampleAt (replicate 64 v)) l ≡ storeBlock stride (λ i. w) l
-flat-block stride l {v} {w} e = store-ext stride (sampleAt (replicate 64 v)) (λ i. w) l (λ i h. all-same v i h ∙ e)
+pub flat-block : (stride : ℕ) (l : List ℕ) {v w : ℕ} → v ≡ w → storeBlock stride (sampleInBlock (replicate 64 v)) l ≡ storeBlock stride (λ i. w) l
+flat-block stride l {v} {w} e = store-ext stride (sampleInBlock (replicate 64 v)) (λ i. w) l (λ i h. all-same v i h ∙ e)

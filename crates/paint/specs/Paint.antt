@@ -19,8 +19,8 @@ both true b = b
 both false b = false
 
 -- the sample of a block at place i
-abbrev pub sampleAt : List ℕ → ℕ → ℕ
-sampleAt p i = getD p i 0
+abbrev pub sampleInBlock : List ℕ → ℕ → ℕ
+sampleInBlock p i = getD p i 0
 
 -- the rows from the block's corner on, with its 8 by 8 samples stored: place n is in row n / stride and column n % stride
 unfoldable pub storeBlock : ℕ → (ℕ → ℕ) → List ℕ → List ℕ

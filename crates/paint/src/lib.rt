@@ -6,7 +6,7 @@ ghost use mathlib.Core.Path.{_≡_};
 ghost use Prim.Native.Nat.{_+_, _*_, _≤_};
 ghost use lib.ListN.{length};
 ghost use Rattle.ask.specs.Limits.{strideMax};
-ghost use Rattle.paint.specs.Paint.{storeBlock, sampleAt};
+ghost use Rattle.paint.specs.Paint.{storeBlock, sampleInBlock};
 ghost use Rattle.paint.specs.Samples.{flatSample};
 use crate::flat_sample::flat;
 use crate::row::put8;
@@ -15,7 +15,7 @@ use crate::row::put16;
 // Stores the 8 by 8 samples of a block into the rows from its corner on.
 pub fn store8(rows: &mut [u8], stride: usize, p: &[u8; 64])
     requires { ⌜ (8 ≤ stride) × (stride ≤ strideMax) × (7 * stride + 8 ≤ length (now rows)) ⌝ }
-    ensures { λ _. ⌜ now (rows .exit) ≡ storeBlock stride (sampleAt (now (p .entry))) (now (rows .entry)) ⌝ }
+    ensures { λ _. ⌜ now (rows .exit) ≡ storeBlock stride (sampleInBlock (now (p .entry))) (now (rows .entry)) ⌝ }
 {
     for i in 0..8 {
         put8(rows, i * stride, p, i * 8);
@@ -25,7 +25,7 @@ pub fn store8(rows: &mut [u8], stride: usize, p: &[u8; 64])
 // The same at 16 bits.
 pub fn store16(rows: &mut [u16], stride: usize, p: &[u16; 64])
     requires { ⌜ (8 ≤ stride) × (stride ≤ strideMax) × (7 * stride + 8 ≤ length (now rows)) ⌝ }
-    ensures { λ _. ⌜ now (rows .exit) ≡ storeBlock stride (sampleAt (now (p .entry))) (now (rows .entry)) ⌝ }
+    ensures { λ _. ⌜ now (rows .exit) ≡ storeBlock stride (sampleInBlock (now (p .entry))) (now (rows .entry)) ⌝ }
 {
     for i in 0..8 {
         put16(rows, i * stride, p, i * 8);

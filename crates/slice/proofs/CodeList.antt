@@ -15,7 +15,7 @@ use Rattle.calls.specs.Streams.{dcStream, acStream}
 use Rattle.slice.specs.Plane.{coefficients}
 use Rattle.calls.specs.Questions.{together}
 use Rattle.slice.specs.Calls.{Coded, ownStreams, laidAt, codedBy, encode}
-use Rattle.slice.specs.CallLists.{Answer, CodedAll, Book, emptyBook, Fed, bookAt, bookNumber, putBehind, bookBy, bookNext, bookAfter, bookAnswers}
+use Rattle.slice.specs.CallLists.{CodedAll, Book, emptyBook, Fed, bookAt, bookNumber, putBehind, bookBy, bookNext, bookAfter, bookAnswers, CallAnswer}
 use Rattle.slice.specs.Demand3.{Written, fed, CodingHalf}
 use Rattle.slice.proofs.Law.{dc-fits, ac-fits}
 use Rattle.slice.proofs.Runs.{encodeAll}

@@ -8,7 +8,7 @@ use native.Mathlib.Omega.{arith}
 use lib.Dec.{ltb}
 use lib.ListN.{length, getD, take, drop}
 use borrow.Author.Tests.{lt-ltb, le-ltb}
-use Rattle.paint.specs.Paint.{over, pickN, both, sampleAt, storeBlock}
+use Rattle.paint.specs.Paint.{over, pickN, both, storeBlock, sampleInBlock}
 use Rattle.paint.proofs.Over.{by-eq, by-lt, getD-over, length-over, over-by, over-none, over-part, handed-back}
 use Rattle.calls.specs.Arguments.{Depth, Plane}
 use Rattle.calls.specs.ReadPlane.{BlockRead}
@@ -128,13 +128,13 @@ map-last g (x ∷ xs) a e = map-last g xs a e
 module _ (depth : Depth) (preset place : ℕ) where
   -- the samples of block n of a list
   pub block-is : (blocks : List BlockRead) (n : ℕ) (d b : BlockRead) → n < length blocks → getD blocks n d ≡ b
-      → (x : ℕ) → x < 64 → sampleAt (blockSamples depth preset place b) x ≡ sampleIn depth preset place blocks n x
+      → (x : ℕ) → x < 64 → sampleInBlock (blockSamples depth preset place b) x ≡ sampleIn depth preset place blocks n x
   block-is blocks n d b h e x k =
       ap (λ (z : List ℕ). getD z x 0) (sym (map-at (blockSamples depth preset place) blocks n d [] h ∙ ap (blockSamples depth preset place) e))
 
   -- the block that follows those of a list
   pub block-last : (blocks : List BlockRead) (b : BlockRead)
-      → (x : ℕ) → x < 64 → sampleAt (blockSamples depth preset place b) x ≡ sampleIn depth preset place (blocks ++ (b ∷ [])) (length blocks) x
+      → (x : ℕ) → x < 64 → sampleInBlock (blockSamples depth preset place b) x ≡ sampleIn depth preset place (blocks ++ (b ∷ [])) (length blocks) x
   block-last blocks b x k = ap (λ (z : List ℕ). getD z x 0) (map-last (blockSamples depth preset place) blocks b [])
 
   block-front : (blocks more : List BlockRead) (n x : ℕ) → n < length blocks → sampleIn depth preset place blocks n x ≡ sampleIn depth preset place (blocks ++ more) n x
@@ -145,11 +145,11 @@ module _ (depth : Depth) (preset : ℕ) (p : Plane) (eights : p .stride % 8 ≡ 
   pub painted-more : (j k c : ℕ) (blocks : List BlockRead) (b : BlockRead) (rows y : List ℕ) → j < 2 → k < columnsOf (p .stride)
       → length blocks ≡ j * columnsOf (p .stride) + k → c ≡ 8 * j * p .stride + 8 * k → 16 * p .stride ≤ length (p .samples)
       → rows ≡ paintedRows depth preset p blocks (length blocks)
-      → y ≡ storeBlock (p .stride) (sampleAt (blockSamples depth preset (p .place) b)) (take (length rows - c) (drop c rows))
+      → y ≡ storeBlock (p .stride) (sampleInBlock (blockSamples depth preset (p .place) b)) (take (length rows - c) (drop c rows))
       → take c rows ++ (y ++ drop (length rows - c) (drop c rows)) ≡ paintedRows depth preset p (blocks ++ (b ∷ [])) (length blocks + 1)
   painted-more j k c blocks b rows y in-rows in-row em ec room er ey =
       let s = sampleIn depth preset (p .place) (blocks ++ (b ∷ [])) in
-      painted-next (p .stride) j k eights in-row in-rows s (sampleAt (blockSamples depth preset (p .place) b))
+      painted-next (p .stride) j k eights in-row in-rows s (sampleInBlock (blockSamples depth preset (p .place) b))
       (λ x h. block-last depth preset (p .place) blocks b x h ∙ ap (λ (n : ℕ). s n x) em)
       (length blocks) c (p .samples) rows y em ec (omega (arith, corner-fits j k (p .stride) in-rows in-row))
       (er ∙ painted-ext (p .stride) (length blocks) (sampleIn depth preset (p .place) blocks) s (p .samples) (λ n x h. block-front depth preset (p .place) blocks (b ∷ []) n x h)) ey

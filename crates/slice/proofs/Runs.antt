@@ -3,7 +3,7 @@ use mathlib.Core.Path.{_≡_, refl, sym, ap, _∙_}
 use mathlib.Core.List.{List, [], _∷_}
 use Rattle.calls.specs.Arguments.{Call, PerStream, Buffers}
 use Rattle.slice.specs.Calls.{Coded, encode, Decoded, decode}
-use Rattle.slice.specs.CallLists.{Answer, CodedAll, Coding, codedNone, codedThen, DecodedAll, Reading, readNone, readThen}
+use Rattle.slice.specs.CallLists.{CodedAll, Coding, codedNone, codedThen, DecodedAll, Reading, readNone, readThen, CallAnswer}
 
 unfoldable pub encodeAll : List Call → Buffers → PerStream → CodedAll
 encodeAll [] b at = record { answers = []; at = at; buffers = b }

@@ -11,7 +11,7 @@ use Rattle.slice.specs.Calls.{Coded, ownStreams, PlanesRead, badPlanes, 
 use Rattle.slice.specs.Room.{codingQuestions}
 
 -- what a call hands back besides lent memory
-pub record Answer : Type 0 where
+pub record CallAnswer : Type 0 where
   pub number : ℕ
   pub at : PerStream
 
@@ -19,7 +19,7 @@ pub record Answer : Type 0 where
 
 -- after a list of coding calls: what each answered, and the positions and bytes that the last one left
 pub record CodedAll : Type 0 where
-  pub answers : List Answer
+  pub answers : List CallAnswer
   pub at : PerStream
   pub buffers : Buffers
 
@@ -88,7 +88,7 @@ unfoldable pub bookAfter : Fed → Book → List Call → Book
 bookAfter f k [] = k
 bookAfter f k (c ∷ cs) = bookAfter f (bookNext f k c) cs
 
-unfoldable pub bookAnswers : Fed → Book → List Call → List Answer
+unfoldable pub bookAnswers : Fed → Book → List Call → List CallAnswer
 bookAnswers f k [] = []
 bookAnswers f k (c ∷ cs) = record { number = bookNumber f k c; at = bookAt f (bookNext f k c) } ∷ bookAnswers f (bookNext f k c) cs
 

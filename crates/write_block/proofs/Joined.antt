@@ -6,7 +6,7 @@ use mathlib.Core.List.{List, [], _∷_}
 use Prim.Native.Nat.{ℕ}
 use lib.IntN.{ℤ, pos}
 use lib.ListN.{length, getD}
-use Rattle.paint.specs.Paint.{storeBlock, sampleAt}
+use Rattle.paint.specs.Paint.{storeBlock, sampleInBlock}
 use Rattle.paint.specs.Samples.{flatSample}
 use Rattle.paint.proofs.Pixels.{store-ext, flat-block}
 use Rattle.tables.specs.Divisor.{divisorsOf}
@@ -41,11 +41,11 @@ module _ (stride preset : ℕ) (v : ℤ) (nat : List ℤ) (l : List ℕ) {y : Li
       f ∙ sym (flat-block stride l (sym (ap₂ flatSample h (e ∙ sym (scan-first nat) ∙ first (scanOf nat)))))
 
   block : (depth : Depth) (symbolRead : Bool) (place : ℕ) → length nat ≡ 64 → v ≡ level depth place → y ≡ storeBlock stride (blockSample (isTen depth) preset v nat) l
-      → y ≡ storeBlock stride (sampleAt (transformed depth preset place (natural symbolRead nat))) l
+      → y ≡ storeBlock stride (sampleInBlock (transformed depth preset place (natural symbolRead nat))) l
   unfolding transformed blockSample
   block depth symbolRead place e h f =
       f
-      ∙ store-ext stride (blockSample (isTen depth) preset v nat) (sampleAt (transformed depth preset place (natural symbolRead nat))) l
+      ∙ store-ext stride (blockSample (isTen depth) preset v nat) (sampleInBlock (transformed depth preset place (natural symbolRead nat))) l
       (λ i b.
       rw (natural-scan nat e, ← h) (sym (sample-at (isTen depth) (inverseOf (isTen depth) v (dequantiseOf (isTen depth) preset nat)) i b)))
 

@@ -6,7 +6,7 @@ use Prim.Native.Nat.{ℕ, _-_}
 use lib.IntN.{ℤ}
 use lib.ListN.{length, take, drop}
 use Rattle.tables.specs.Divisor.{divisorsOf}
-use Rattle.paint.specs.Paint.{storeBlock, sampleAt}
+use Rattle.paint.specs.Paint.{storeBlock, sampleInBlock}
 use Rattle.calls.specs.Arguments.{Depth, eight, ten}
 use Rattle.calls.specs.ReadPlane.{BlockRead}
 use Rattle.calls.specs.Grid.{level}
@@ -25,4 +25,4 @@ depthRows true rows8 rows16 = rows16
 abbrev pub PaintedAt : Depth → ℕ → ℕ → List ℕ → ℤ → BlockRead → List ℕ → List ℕ → Type 0
 PaintedAt depth c stride q v b rows rows' =
     (preset place : ℕ) → q ≡ divisorsOf preset → v ≡ level depth place
-    → rows' ≡ take c rows ++ (storeBlock stride (sampleAt (blockSamples depth preset place b)) (take (length rows - c) (drop c rows)) ++ drop (length rows - c) (drop c rows))
+    → rows' ≡ take c rows ++ (storeBlock stride (sampleInBlock (blockSamples depth preset place b)) (take (length rows - c) (drop c rows)) ++ drop (length rows - c) (drop c rows))

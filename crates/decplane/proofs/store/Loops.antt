@@ -8,7 +8,7 @@ use native.Mathlib.Omega.{arith}
 use lib.ListN.{length, getD, take, drop}
 use Rattle.bits.specs.Bits.{bytesFor}
 use Rattle.tables.specs.Zigzag.{zigzag}
-use Rattle.paint.specs.Paint.{sampleAt, storeBlock}
+use Rattle.paint.specs.Paint.{storeBlock, sampleInBlock}
 use Rattle.calls.specs.Arguments.{Settings, Plane, plane, PerStream, Buffers}
 use Rattle.calls.specs.ReadPlane.{BlockRead}
 use Rattle.calls.specs.Grid.{columnsOf, blocksOf}
@@ -92,7 +92,7 @@ module _ {σ : Settings} {p : Plane} {b : Buffers} {at : PerStream} where
   -- one block
   pub next : (j k : ℕ) {c : ℕ} {s : Stand} (g : BlockGot) (rows rows' : List ℕ) → PlaneGood σ p b at → j < 2 → k < columnsOf (p .stride)
       → NextBlock (σ .shift) (b .dcBytes) (b .acBytes) s g → c ≡ 8 * j * p .stride + 8 * k
-      → rows' ≡ take c rows ++ (storeBlock (p .stride) (sampleAt (blockSamples (σ .depth) (σ .preset) (p .place) (blockOf g))) (take (length rows - c) (drop c rows)) ++ drop (length rows - c) (drop c rows))
+      → rows' ≡ take c rows ++ (storeBlock (p .stride) (sampleInBlock (blockSamples (σ .depth) (σ .preset) (p .place) (blockOf g))) (take (length rows - c) (drop c rows)) ++ drop (length rows - c) (drop c rows))
       → Behind σ p b at j k s rows → Behind σ p b at j (k + 1) (g .next) rows'
   next j k {c} {s} g rows rows' o hj hk x ec ey i =
       let n = blocksOf (p .stride) in
@@ -104,9 +104,9 @@ module _ {σ : Settings} {p : Plane} {b : Buffers} {at : PerStream} where
         going = going-next (σ .shift) n (b .dcBytes) (b .acBytes) (at .dc) (at .ac) m s g (o .good) h (i .going) x;
         painted =
             ey
-            ∙ painted-next (p .stride) j k (o .plane .eights) hk hj (sampleIn (σ .depth) (σ .preset) (p .place) (got σ p b at)) (sampleAt (blockSamples (σ .depth) (σ .preset) (p .place) (blockOf g)))
+            ∙ painted-next (p .stride) j k (o .plane .eights) hk hj (sampleIn (σ .depth) (σ .preset) (p .place) (got σ p b at)) (sampleInBlock (blockSamples (σ .depth) (σ .preset) (p .place) (blockOf g)))
             (λ q l. ap (λ (z : List ℕ). getD z q 0) (block-here (σ .shift) n (b .dcBytes) (b .acBytes) (at .dc) (at .ac) (blockSamples (σ .depth) (σ .preset) (p .place)) m s g (o .good) h (i .going) x))
-            m c (p .samples) rows (storeBlock (p .stride) (sampleAt (blockSamples (σ .depth) (σ .preset) (p .place) (blockOf g))) (take (length rows - c) (drop c rows))) refl ec (omega (arith, corner-fits j k (p .stride) hj hk, o .plane .rows-long)) (i .painted) refl;
+            m c (p .samples) rows (storeBlock (p .stride) (sampleInBlock (blockSamples (σ .depth) (σ .preset) (p .place) (blockOf g))) (take (length rows - c) (drop c rows))) refl ec (omega (arith, corner-fits j k (p .stride) hj hk, o .plane .rows-long)) (i .painted) refl;
       })
 
   -- a block row

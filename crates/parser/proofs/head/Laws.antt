@@ -15,7 +15,7 @@ use Rattle.ask.specs.Numbers.{noSize, noBytes}
 use Rattle.layout.proofs.Laws.{sized}
 use Rattle.layout.specs.Geometry.{sizeOk, interlaceCapable}
 use Rattle.parser.specs.streams.Streams.{byteAt}
-use Rattle.parser.specs.head.Header.{formatAt, shiftIn, isInterlaced, sliceCountOk, byteQuestions, headerQuestions, Legal}
+use Rattle.parser.specs.head.Header.{formatAt, shiftIn, isInterlaced, sliceCountOk, byteQuestions, headerQuestions, LegalFrame}
 
 -- ---- the header
 pub format-small : (f : List ℕ) → formatAt f ≤ 2
@@ -70,20 +70,20 @@ module _ (w h : ℕ) (f : List ℕ) where
       go false b x = absurd (let z : _≡_ {A = ℕ} 0 1 = cc in omega arith)
 
   -- so the size is legal and five bytes are there
-  pub two-legal : bytesAsked w h f ≡ true → Legal w h f
+  pub two-legal : bytesAsked w h f ≡ true → LegalFrame w h f
   two-legal e = go (sizeOk w h) refl (leb 5 (length f)) refl
     where
-      go : (a : Bool) → sizeOk w h ≡ a → (b : Bool) → leb 5 (length f) ≡ b → Legal w h f
+      go : (a : Bool) → sizeOk w h ≡ a → (b : Bool) → leb 5 (length f) ≡ b → LegalFrame w h f
       go false x b y = absurd (let z : _≡_ {A = ℕ} 0 1 = cc (rw x at e) in omega arith)
       go true x false y = absurd (let z : _≡_ {A = ℕ} 0 1 = cc (rw (x, y) at e) in omega arith)
       go true x true y = record { wide = sized w h x .wide; high = sized w h x .high; five = leb-true 5 (length f) y }
 
   -- and so where all answers are yes
-  pub legal : firstNo (headerQuestions w h f) ≡ 0 → Legal w h f
+  pub legal : firstNo (headerQuestions w h f) ≡ 0 → LegalFrame w h f
   unfolding firstNo headerQuestions
   legal e = go (sizeOk w h) refl (leb 5 (length f)) refl
     where
-      go : (a : Bool) → sizeOk w h ≡ a → (b : Bool) → leb 5 (length f) ≡ b → Legal w h f
+      go : (a : Bool) → sizeOk w h ≡ a → (b : Bool) → leb 5 (length f) ≡ b → LegalFrame w h f
       go false x b y = absurd (let z = rw x at e in omega arith)
       go true x false y = absurd (let z = rw (x, y) at e in omega arith)
       go true x true y = two-legal (rw (x, y))

@@ -6,7 +6,7 @@ use Prim.Native.Nat.{ℕ}
 use Rattle.ask.specs.Ask.{Answer, accepted, firstNo}
 use Rattle.layout.specs.Geometry.{sliceCount, maxAcLen}
 use Rattle.parser.specs.streams.Streams.{streams}
-use Rattle.parser.specs.head.Header.{Legal, headerQuestions}
+use Rattle.parser.specs.head.Header.{headerQuestions, LegalFrame}
 use Rattle.parser.specs.Frame.{dcStreams}
 use Rattle.parser.specs.streams.Views.{placeSays}
 use Rattle.parser.proofs.streams.Laws.{place-told}
@@ -32,7 +32,7 @@ start n = n .before .before .before
 all-yes : (n : tie.Else1) → firstNo (headerQuestions (w (start n)) (h (start n)) (f (start n))) ≡ 0
 all-yes n = none-is (n .before .header-number .ensures) (n .if1 .left)
 
-is-legal : (n : tie.Else1) → Legal (w (start n)) (h (start n)) (f (start n))
+is-legal : (n : tie.Else1) → LegalFrame (w (start n)) (h (start n)) (f (start n))
 is-legal n = legal (w (start n)) (h (start n)) (f (start n)) (all-yes n)
 
 -- the first walk is over the DC streams

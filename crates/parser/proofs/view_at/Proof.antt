@@ -8,7 +8,7 @@ use lib.ListN.{length}
 use Rattle.ask.specs.Ask.{accepted, firstNo}
 use Rattle.layout.specs.Geometry.{sliceCount, maxAcLen}
 use Rattle.parser.specs.streams.Streams.{streams}
-use Rattle.parser.specs.head.Header.{Legal, headerQuestions, frameRead}
+use Rattle.parser.specs.head.Header.{headerQuestions, frameRead, LegalFrame}
 use Rattle.parser.specs.Frame.{dcStreams, parseOf, nthStream, kindView}
 use Rattle.parser.specs.streams.Views.{placeSays}
 use Rattle.parser.proofs.streams.Laws.{place-told, streams-inside}
@@ -37,7 +37,7 @@ start e = e .before .before .before
 all-yes : (e : tie.Else1) → firstNo (headerQuestions (w (start e)) (h (start e)) (f (start e))) ≡ 0
 all-yes e = none-is (e .before .header-number .ensures) (e .if1 .left)
 
-is-legal : (e : tie.Else1) → Legal (w (start e)) (h (start e)) (f (start e))
+is-legal : (e : tie.Else1) → LegalFrame (w (start e)) (h (start e)) (f (start e))
 is-legal e = legal (w (start e)) (h (start e)) (f (start e)) (all-yes e)
 
 returns : tie.Need-returns

@@ -52,7 +52,7 @@ unfoldable pub headerQuestions : ℕ → ℕ → List ℕ → List Question
 headerQuestions w h f = sizeQuestion w h ∷ fiveQuestion f ∷ byteQuestions h f
 
 -- what the header's questions leave: a legal size and five bytes at least
-pub record Legal (w h : ℕ) (f : List ℕ) : Type 0 where
+pub record LegalFrame (w h : ℕ) (f : List ℕ) : Type 0 where
   pub wide : w ≤ widthMax
   pub high : h ≤ heightMax
   pub five : 5 ≤ length f

@@ -6,9 +6,10 @@ use Prim.Native.Nat.{ℕ, zero, suc, _*_, _/_, _≤_, _<_}
 use native.Mathlib.Omega.{arith}
 use lib.ListN.{length, take}
 use Rattle.ask.specs.Ask.{firstNo}
-use Rattle.ask.specs.Limits.{strideOk, countOk}
+use Rattle.ask.specs.Limits.{strideOk, countOk, dcBlockBytes, acBlockBytes, dcColumnBytes, acColumnBytes}
 use Rattle.ask.proofs.FirstNo.{passed}
 use Rattle.calls.specs.Arguments.{eight, settings, Plane, PerStream}
+use Rattle.calls.specs.Grid.{blocksOf}
 use Rattle.calls.specs.Questions.{stridesOk, lengthsAtMost, together, planeSizeQuestions, sliceSizeQuestions}
 use Rattle.calls.specs.Previews.{nothing, sizedBy, planeSize, sliceSize, lengthsOfAll, ofStride, firstOfFour}
 use Rattle.calls.proofs.Legal.{stride-legal}
@@ -33,8 +34,8 @@ module _ (stride : ℕ) {n : ℕ} (e : n ≡ firstNo (planeSizeQuestions stride)
 
   plane-lengths : roomOf (stride / 8) ≡ lengthsAtMost stride
   plane-lengths =
-      let d : 8 * (stride / 8) ≡ 4 * (2 * (stride / 8)) = omega arith in
-      let a : 394 * (stride / 8) ≡ 197 * (2 * (stride / 8)) = omega arith in
+      let d : dcColumnBytes * (stride / 8) ≡ dcBlockBytes * blocksOf stride = omega arith in
+      let a : acColumnBytes * (stride / 8) ≡ acBlockBytes * blocksOf stride = omega arith in
       λ i. record { dc = d i; ac = a i }
 
   pub plane-sized : n ≡ 0 → record { number = 0; lengths = roomOf (stride / 8) } ≡ planeSize stride

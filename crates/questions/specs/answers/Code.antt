@@ -8,6 +8,6 @@ use Rattle.calls.specs.Arguments.{buffers}
 use Rattle.calls.specs.Views.{positionsBy}
 
 -- document 01's number and positions of an answer, with both buffers as they are now
-abbrev pub answered : CodeAnswer → List ℕ → List ℕ → Coded
-answered (Refused n at) dcs acs = record { number = n; at = positionsBy at; buffers = buffers dcs acs }
-answered (Accepted at) dcs acs = record { number = 0; at = positionsBy at; buffers = buffers dcs acs }
+abbrev pub codeSays : CodeAnswer → List ℕ → List ℕ → Coded
+codeSays (Refused n at) dcs acs = record { number = n; at = positionsBy at; buffers = buffers dcs acs }
+codeSays (Accepted at) dcs acs = record { number = 0; at = positionsBy at; buffers = buffers dcs acs }

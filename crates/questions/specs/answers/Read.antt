@@ -7,6 +7,6 @@ use Rattle.questions.specs.declared.answers.ReadAnswer.the-variants.{Ref
 use Rattle.calls.specs.Views.{positionsBy}
 
 -- document 01's number and positions of an answer, with the rows of every lent plane as they are now
-abbrev pub answered : ReadAnswer → List (List ℕ) → Decoded
-answered (Refused n at) rows = record { number = n; at = positionsBy at; rows = rows }
-answered (Accepted at) rows = record { number = 0; at = positionsBy at; rows = rows }
+abbrev pub readSays : ReadAnswer → List (List ℕ) → Decoded
+readSays (Refused n at) rows = record { number = n; at = positionsBy at; rows = rows }
+readSays (Accepted at) rows = record { number = 0; at = positionsBy at; rows = rows }

@@ -14,7 +14,7 @@ use Rattle.bits.proofs.LayLaw.{lay-length, lay-lay}
 use Rattle.layout.specs.Geometry.{sliceCount, maxDcLen, maxAcLen}
 use Rattle.parser.specs.streams.Streams.{oneStream, streams}
 use Rattle.parser.proofs.streams.Laws.{one-end}
-use Rattle.parser.specs.head.Header.{formatAt, headerLength, headerQuestions, Legal}
+use Rattle.parser.specs.head.Header.{formatAt, headerLength, headerQuestions, LegalFrame}
 use Rattle.parser.proofs.head.Laws.{begins-inside, format-small}
 use Rattle.parser.specs.Frame.{dcStreams, parseOf, View, nthStream, kindView, viewOf}
 use Rattle.parser.proofs.Laws.{dc-inside, dc-no, dc-only, ac-no, ac-too, view-yes, view-unwanted}
@@ -46,7 +46,7 @@ pub few : (h : ℕ) {slices : ℕ} → slices ≡ sliceCount h → h ≤ heightM
 few h e k = omega arith
 
 -- what the walks ask
-module _ (w h : ℕ) (f table held : List ℕ) (ok : Legal w h f) {slices : ℕ} (n : slices ≡ sliceCount h) (r : 4 * sliceCount h ≤ length table) (s : 4 * sliceCount h ≤ length held) where
+module _ (w h : ℕ) (f table held : List ℕ) (ok : LegalFrame w h f) {slices : ℕ} (n : slices ≡ sliceCount h) (r : 4 * sliceCount h ≤ length table) (s : 4 * sliceCount h ≤ length held) where
   pub dc-walks : {limit at : ℕ} → limit ≡ maxDcLen w → at ≡ formatAt f → Walks f slices limit (at + 3) 0 table held
   dc-walks {limit} l a =
       let m = few h n (ok .high) in

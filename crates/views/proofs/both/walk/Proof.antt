@@ -9,7 +9,7 @@ use Rattle.layout.specs.Geometry.{sliceCount, maxDcLen, maxAcLen}
 use Rattle.parser.specs.streams.Streams.{streams}
 use Rattle.parser.specs.streams.Views.{placeSays}
 use Rattle.parser.proofs.streams.Laws.{place-told}
-use Rattle.parser.specs.head.Header.{Legal, headerLength}
+use Rattle.parser.specs.head.Header.{headerLength, LegalFrame}
 use Rattle.parser.proofs.head.Laws.{header-fits, legal}
 use Rattle.parser.specs.Frame.{dcStreams, nthStream}
 use Rattle.parser.proofs.Laws.{dc-no, dc-only, ac-no, ac-too, dc-walk, ac-walk}
@@ -35,7 +35,7 @@ table s = s .args .table .now
 abbrev held : tie.Start → List ℕ
 held s = s .args .held .now
 
-is-legal : (s : tie.Start) → Legal (w s) (h s) (f s)
+is-legal : (s : tie.Start) → LegalFrame (w s) (h s) (f s)
 is-legal s = legal (w s) (h s) (f s) (s .pre .0 .yes)
 
 -- behind the first walk

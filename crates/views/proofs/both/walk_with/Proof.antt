@@ -2,13 +2,13 @@
 use borrow.Author.Needs.{needs}
 use native.Mathlib.Omega.{arith}
 use Prim.Native.Nat.{_*_}
-use Rattle.parser.specs.head.Header.{Legal}
 use Rattle.parser.proofs.head.Laws.{legal}
 use Rattle.views.proofs.both.Laws.{few, holding}
 use Rattle.views.proofs.both.walk_with.Statement.{statement}
 use Rattle.views.proofs.both.walk_with.Tie as tie
+use Rattle.parser.specs.head.Header.{LegalFrame}
 
-is-legal : (s : tie.Start) → Legal (s .args .width) (s .args .height) (s .args .frame .now)
+is-legal : (s : tie.Start) → LegalFrame (s .args .width) (s .args .height) (s .args .frame .now)
 is-legal s = legal (s .args .width) (s .args .height) (s .args .frame .now) (s .pre .0 .yes)
 
 slice-count-requires : tie.Need-slice-count-requires
