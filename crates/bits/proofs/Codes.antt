@@ -104,10 +104,13 @@ zeros-run (suc z) (suc f) s p bs h a = rw (a .0) (ap suc (zeros-run z f s (suc p
 tail-back : (s : Stream) (p z n : ℕ) → z < 55 → 2 ^ suc z ≤ n → n < 2 ^ suc (suc z)
     → At s p (replicate z false ++ bitsOf (suc (suc z)) n) → readTail s p ≡ number n (p + z + suc (suc z))
 unfolding readTail tailAt bitsOf
-tail-back s p z n small lo hi a = rw (zs, le-leb z 54 (le-of-suc-le-suc small), ns)
+tail-back s p z n small lo hi a = rw (zs, le-leb z maxZeros few, ns)
   where
-    zs : zeros 55 s p ≡ z
-    zs = zeros-run z 55 s p (bitsOf (suc z) n) small (rw (top (suc z) n lo hi) at a)
+    few : z ≤ maxZeros
+    few = le-of-suc-le-suc small
+
+    zs : zeros (suc maxZeros) s p ≡ z
+    zs = zeros-run z (suc maxZeros) s p (bitsOf (suc z) n) small (rw (top (suc z) n lo hi) at a)
 
     ns : num (suc (suc z)) 0 s (p + z) ≡ n
     ns = num-bits (suc (suc z)) 0 n s (p + z) (rw length-replicate at (at-append s p (replicate z false) (bitsOf (suc (suc z)) n) a .1)) ∙ rw (mod-eq-of-lt hi) (omega arith)
