@@ -13,7 +13,7 @@ use Rattle.acread.specs.declared.BlockEnd.{BlockEnd}
 use Rattle.acread.specs.declared.BlockEnd.the-variants as end
 use Rattle.acread.proofs.Turn.{start, turn, stop, over}
 
--- the cursor c stands at a place of the block at p, behind whose first zeros r come
+-- the cursor c stands at a place of the block at p, after whose first zeros r come
 pub record Going (s : List ℕ) (p r : ℕ) (c : AcCursor) (place : ℕ) : Type 0 where
   pub same : endsOf (readPlaces 64 (bitAt s) p r) ≡ endsOf (readPlaces (64 - place) (bitAt s) (c .pos) (place - 64))
   pub holds : At s c

@@ -1,4 +1,4 @@
--- Two rows of w blocks: how many are left in row j behind its first k, and in the rows behind it.
+-- Two rows of w blocks: how many are left in row j after its first k, and in the rows after it.
 use mathlib.Core.Path.{_≡_, ap, _∙_}
 use Prim.Native.Nat.{ℕ, suc, _+_, _-_, _*_, _≤_, _<_}
 use native.Mathlib.Nat.{add-mul, one-mul, zero-mul}

@@ -33,7 +33,7 @@ abbrev pub blockSays : BlockEnd → Ends
 blockSays (end.At c n) = ends (c .pos) n
 blockSays end.Bad = badEnds
 
--- a cursor behind the block at p: at most 64 codes of 112 bits were read
+-- a cursor after the block at p: at most 64 codes of 112 bits were read
 pub record AcReady (s : List ℕ) (p : ℕ) (c : AcCursor) (n : ℕ) : Type 0 where
   pub holds : At s c
   pub near : c .pos ≤ p + 7168

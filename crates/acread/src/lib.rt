@@ -7,7 +7,7 @@ ghost use Rattle.bitreader.specs.Cursor.{At};
 ghost use Rattle.acread.specs.Block.{spanOf, flatByte, BlockEnded};
 use bitreader::AcCursor;
 
-// Where a block's places end: the cursor behind the last code, and the zeros of its run that are still to come.
+// Where a block's places end: the cursor after the last code, and the zeros of its run that are still to come.
 pub enum BlockEnd {
     At(AcCursor, u64),
     Bad,
@@ -27,7 +27,7 @@ pub fn flat(pending: u64) -> u8
     if pending < 64 { 0 } else { 1 }
 }
 
-// Reads the symbols of one block, behind `pending` zeros, and keeps none of their values.
+// Reads the symbols of one block, after `pending` zeros, and keeps none of their values.
 pub fn skip_block(s: &[u8], c0: AcCursor, pending: u64) -> BlockEnd
     requires { ⌜ At (now s) c0 × (c0 .pos < 2 ^ 59) × (pending < 2 ^ 57) ⌝ }
     ensures { λ r. ⌜ BlockEnded (now (s .entry)) (c0 .pos) pending r ⌝ }

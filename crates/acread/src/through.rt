@@ -9,7 +9,7 @@ ghost use Rattle.acread.specs.through.Through.{blockEnds, goodEnds, acEn
 use crate::BlockEnd;
 use ask::numbers::NO_CODE;
 
-// Where a plane ends: the byte behind its stream, or the number of a refusal.
+// Where a plane ends: the byte after its stream, or the number of a refusal.
 pub enum PlaneEnd {
     At(usize),
     Refused(u32),

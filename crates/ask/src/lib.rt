@@ -82,7 +82,7 @@ pub fn rows_ok(stride: usize, n: usize) -> bool
     stride <= n / ROWS
 }
 
-// Question 6: so many columns of blocks, of so many bytes each, fit behind `at` in a buffer of n bytes.
+// Question 6: so many columns of blocks, of so many bytes each, fit after `at` in a buffer of n bytes.
 pub fn room_ok(at: usize, bytes: usize, columns: usize, n: usize) -> bool
     requires { ⌜ 0 < bytes ⌝ }
     ensures { λ r. ⌜ r ≡ leb (at + bytes * columns) n ⌝ }

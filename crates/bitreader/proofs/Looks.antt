@@ -32,7 +32,7 @@ at-skip s c r n a h ep ec eb = record {
   holds = eb ∙ holds-up s (c .pos) (c .count) (c .bits) n (a .holds) (a .most) h ∙ ap₂ (λ (x y : ℕ). num x 0 (bitAt s) y * 2 ^ (64 - x)) (sym ec) (sym ep);
 }
 
--- y zeros at q, and the number behind them
+-- y zeros at q, and the number after them
 record Lead (s : Stream) (q y n : ℕ) : Type 0 where
   pub zs : y ≡ zeros 56 s q
   pub is : n ≡ num (suc y) 0 s (q + y)
@@ -73,7 +73,7 @@ module _ (s : List ℕ) (c d : AcCursor) (a : At s d) (ep : d .pos ≡ c .pos) (
   pub head-most : d .bits / 2 ^ 63 ≤ 1
   head-most = omega (arith, head-is, bit-most (bitAt s (c .pos)))
 
-  -- the bits behind the head
+  -- the bits after the head
   pub behind : Holds s (c .pos + d .bits / 2 ^ 63) (d .count - d .bits / 2 ^ 63) ((d .bits * 2 ^ (d .bits / 2 ^ 63)) % 2 ^ 64)
   behind = subst (λ (x : ℕ). Holds s (x + d .bits / 2 ^ 63) (d .count - d .bits / 2 ^ 63) ((d .bits * 2 ^ (d .bits / 2 ^ 63)) % 2 ^ 64)) ep
       (holds-up s (d .pos) (d .count) (d .bits) (d .bits / 2 ^ 63) (a .holds) (a .most) (omega (arith, head-most)))
@@ -120,7 +120,7 @@ module _ (s : List ℕ) (c d : AcCursor) (a : At s d) (ep : d .pos ≡ c .pos) (
           dc-short (bitAt s) (c .pos) (d .bits / 2 ^ 63) y n (k .pos) head-is (found .zs ∙ ap (zeros 56 (bitAt s)) e0) (omega arith)
           (found .is ∙ ap (λ (x : ℕ). num (suc y) 0 (bitAt s) (x + y)) e0) (found .some) (kp ∙ ap (λ (x : ℕ). x + (2 * y + 1 + d .bits / 2 ^ 63)) ep)
 
--- ---- a code of any length, behind a look that found a longer one
+-- ---- a code of any length, after a look that found a longer one
 
 module _ (s : List ℕ) (c : AcCursor) (e : ℕ) (l : Got) (look : Looked s c e l) (none : l .num ≡ 0) (v : ℕ) (g : Got) (far : Long (l .c) e v g)
     (is : v ≡ numberOf (readTail (bitAt s) (l .c .pos + 1 + e))) (he : e ≡ bit (bitAt s (c .pos))) where

@@ -1,4 +1,4 @@
--- One form for all codes: from a place with y zeros, y + 1 bits behind them are the number. Assumes nothing.
+-- One form for all codes: from a place with y zeros, y + 1 bits after them are the number. Assumes nothing.
 use mathlib.Core.Path.{_≡_, refl, sym, ap, ap₂, _∙_, subst}
 use mathlib.Core.Bool.{Bool, true, false}
 use mathlib.Core.Logic.{⊎-elim}
@@ -75,7 +75,7 @@ one-bit : (s : Stream) (p : ℕ) → s p ≡ true → num 1 0 s p ≡ 1
 unfolding num
 one-bit s p h = rw h
 
--- a run, from the bit behind its head
+-- a run, from the bit after its head
 run-number : (s : Stream) (p y : ℕ) → s p ≡ true → zeros 56 s (suc p) ≡ y → y ≤ 55 → readSymbol s p ≡ run (num (suc y) 0 s (suc p + y)) (suc p + y + suc y)
 run-number s p y h e l = go (s (suc p)) refl
   where
@@ -86,7 +86,7 @@ run-number s p y h e l = go (s (suc p)) refl
         let n : num 1 0 s (suc p + 0) ≡ 1 = ap (num 1 0 s) (add-zero (suc p)) ∙ one-bit s (suc p) k in
         one-at s p h k ∙ sym (ap (λ (x : ℕ). run (num (suc x) 0 s (suc p + x)) (suc p + x + suc x)) z ∙ ap₂ run n (omega arith))
 
--- ---- what the code has: the head bit r, y zeros behind it, the number n, the place q
+-- ---- what the code has: the head bit r, y zeros after it, the number n, the place q
 
 pub value-by : (n q : ℕ) → 0 < n → symbolBy n 0 q ≡ value n q
 value-by zero q h = absurd (not-suc-le-zero h)
@@ -140,7 +140,7 @@ dc-short s p r y n q er ey l en h eq = go (s p) refl
         let e1 : q ≡ suc (suc p) = omega arith in
         ap (λ (x : ℕ). dcBy n x q) r1 ∙ zero-by n q h ∙ ap zeroStep e1 ∙ sym (zero-at s p k)
 
--- ---- any tail behind a zero, by its number: 0 is bad, and the others' length is that of their digits
+-- ---- any tail after a zero, by its number: 0 is bad, and the others' length is that of their digits
 pub record Found (s : Stream) (q v : ℕ) : Type 0 where
   pub low : 2 ≤ 64 - leadingZeros 64 v
   pub high : 64 - leadingZeros 64 v ≤ 56

@@ -15,7 +15,7 @@ pub record At (s : List ℕ) (c : AcCursor) : Type 0 where
   pub most : c .count ≤ 64
   pub holds : Holds s (c .pos) (c .count) (c .bits)
 
--- the symbol that was got: its number, its head bit, the place behind it. Number 0 is a bad code
+-- the symbol that was got: its number, its head bit, the place after it. Number 0 is a bad code
 abbrev pub symbolBy : ℕ → ℕ → ℕ → Symbol
 symbolBy zero r q = badSymbol
 symbolBy (suc n) zero q = value (suc n) q
@@ -50,13 +50,13 @@ pub record NextDc (s : List ℕ) (c : AcCursor) (g : Got) : Type 0 where
 
 -- ---- inner functions
 
--- 31 bits were looked at, e of them the head: number 0 where the code is longer, and then a zero stands behind the head
+-- 31 bits were looked at, e of them the head: number 0 where the code is longer, and then a zero stands after the head
 pub record Looked (s : List ℕ) (c : AcCursor) (e : ℕ) (g : Got) : Type 0 where
   pub next : Next s c g
   pub stays : g .num ≡ 0 → g .c .pos ≡ c .pos
   pub long : g .num ≡ 0 → bitAt s (c .pos + e) ≡ false
 
--- what was got by the number v behind the head r at c
+-- what was got by the number v after the head r at c
 pub record Long (c : AcCursor) (r v : ℕ) (g : Got) : Type 0 where
   pub head : g .run ≡ r
   pub number : g .num ≡ v

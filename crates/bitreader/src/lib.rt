@@ -18,7 +18,7 @@ pub struct AcCursor {
     pub count: u32,
 }
 
-// What was read: the head bit (1: a run, or a zero step), the number (0: a bad code), and the cursor behind it.
+// What was read: the head bit (1: a run, or a zero step), the number (0: a bad code), and the cursor after it.
 pub struct Got {
     pub run: u64,
     pub num: u64,
@@ -38,7 +38,7 @@ pub fn cursor(s: &[u8], p: usize) -> AcCursor
     }
 }
 
-// The byte at or behind a cursor's place, where what was read ends.
+// The byte at or after a cursor's place, where what was read ends.
 pub fn end_byte(c: AcCursor) -> usize
     requires { ⌜ c .pos < 2 ^ 62 ⌝ }
     ensures { λ r. ⌜ r ≡ bytesFor (c .pos) ⌝ }
@@ -75,7 +75,7 @@ fn filled(s: &[u8], c: AcCursor) -> AcCursor
     }
 }
 
-// The y + 1 bits behind the y highest.
+// The y + 1 bits after the y highest.
 fn digits(t: u64, y: u32) -> u64
     requires { ⌜ y < 32 ⌝ }
     ensures { λ r. ⌜ r ≡ ((t * 2 ^ y) % 2 ^ 64) / 2 ^ (63 - y) ⌝ }
@@ -121,7 +121,7 @@ fn quick_dc(s: &[u8], c0: AcCursor) -> Got
     }
 }
 
-// The number behind a head, of any length, 0 for a bad code. Long codes are seldom: a number alone comes back,
+// The number after a head, of any length, 0 for a bad code. Long codes are seldom: a number alone comes back,
 // so that where the compiler leaves this a call, nothing of a cursor goes through memory.
 fn long_number(s: &[u8], p: usize) -> u64
     requires { ⌜ p < 2 ^ 61 ⌝ }
@@ -134,7 +134,7 @@ fn long_number(s: &[u8], p: usize) -> u64
     crate::words::far(s, p + z as usize) >> (62 - z)
 }
 
-// What was got by the number v behind the head run at c: a code's length is that of its number's digits.
+// What was got by the number v after the head run at c: a code's length is that of its number's digits.
 fn longer(c: AcCursor, run: u64, v: u64) -> Got
     requires { ⌜ (c .pos < 2 ^ 60) × (run < 2) ⌝ }
     ensures { λ r. ⌜ Long c run v r ⌝ }

@@ -12,7 +12,7 @@ use Rattle.bits.proofs.Leading.{length-top, length-le}
 use Rattle.bits.proofs.Pack.{bits-join, bits-wide}
 use Rattle.bits.proofs.Codes.{length-bitsOf}
 
--- the highest bit of a spread number is a one with as many zeros before it as bits behind it
+-- the highest bit of a spread number is a one with as many zeros before it as bits after it
 spread-number : (b c : ℕ) → c < 2 ^ suc b → spread (suc b) c ≡ bitsOf (2 * suc b - 1) c
 unfolding spread
 spread-number b c h = let e : b + suc b ≡ 2 * suc b - 1 = omega arith in sym (bits-wide b (suc b) c h) ∙ ap (λ (x : ℕ). bitsOf x c) e

@@ -1,4 +1,4 @@
--- Codes are read back: each value and run within range, with anything before and behind, reads as itself and ends behind its last bit.
+-- Codes are read back: each value and run within range, with anything before and after, reads as itself and ends after its last bit.
 use mathlib.Core.Path.{_≡_, refl, sym, ap, _∙_}
 use mathlib.Core.Bool.{Bool, true, false}
 use mathlib.Core.List.{List, [], _∷_, _++_}
@@ -15,7 +15,7 @@ use borrow.Author.Tests.{le-leb}
 use Rattle.bits.specs.Bits.{bit, odd, bitsOf, halvings, bitLength, spread, valueCode, runCode, Stream, num}
 use Rattle.bits.specs.Read.{maxZeros, zeros, Tail, badTail, number, pickTail, tailAt, readTail, Symbol, badSymbol, run, value, asRun, asValue, readSymbol}
 
--- these bits lie at the place p of a stream, whatever lies before and behind
+-- these bits lie at the place p of a stream, whatever lies before and after
 abbrev pub At : Stream → ℕ → List Bool → Type 0
 At s p [] = Unit {0}
 At s p (b ∷ bs) = (s p ≡ b) × At s (suc p) bs

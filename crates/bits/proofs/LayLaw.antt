@@ -26,14 +26,14 @@ module _ (l : List ℕ) (i : ℕ) (xs : List ℕ) (h : i ≤ length l) where
   unfolding lay
   split = sym (append-assoc (take i l) xs (drop (i + length xs) l))
 
-  -- what stands before the end of what was laid, and behind it
+  -- what stands before the end of what was laid, and after it
   pub lay-take : take (i + length xs) (lay l i xs) ≡ take i l ++ xs
   lay-take = ap (take (i + length xs)) split ∙ take-at (take i l ++ xs) (drop (i + length xs) l) (i + length xs) front
 
   pub lay-drop : drop (i + length xs) (lay l i xs) ≡ drop (i + length xs) l
   lay-drop = ap (drop (i + length xs)) split ∙ drop-at (take i l ++ xs) (drop (i + length xs) l) (i + length xs) front
 
-  -- bytes laid behind bytes
+  -- bytes laid after bytes
   pub lay-lay : (ys : List ℕ) → lay (lay l i xs) (i + length xs) ys ≡ lay l i (xs ++ ys)
   unfolding lay
   lay-lay ys =

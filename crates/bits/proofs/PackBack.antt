@@ -1,4 +1,4 @@
--- Packed bits are found again, whatever stands before and behind.
+-- Packed bits are found again, whatever stands before and after.
 use mathlib.Core.Path.{_≡_, refl, sym, ap, ap₂, _∙_, subst}
 use mathlib.Core.Bool.{Bool, true, false}
 use mathlib.Core.List.{List, [], _∷_, _++_, append-assoc}

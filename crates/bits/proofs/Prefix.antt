@@ -28,7 +28,7 @@ run-reads : (n : ℕ) (s : Stream) (p : ℕ) → 1 ≤ n → n < 2 ^ 56 → At s
 run-reads zero s p l h a = absurd (omega arith)
 run-reads (suc n) s p l h a = run-back s p n h a
 
--- each code reads as what it stands for, with anything before and behind
+-- each code reads as what it stands for, with anything before and after
 pub reads : (m : Meaning) (s : Stream) (p : ℕ) → At s p (bitsFor m) → readSymbol s p ≡ kindOf m (p + length (bitsFor m))
 reads (aRun n l h) s p a = run-reads n s p l h a
 reads (aValue c l h) s p a = value-back s p c l h a

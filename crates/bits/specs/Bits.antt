@@ -53,7 +53,7 @@ Stream = ℕ → Bool
 unfoldable pub bitAt : List ℕ → Stream
 bitAt l i = odd (getD l (i / 8) 255 / 2 ^ (7 - i % 8))
 
--- the k bits at p as a number, behind the digits that acc is
+-- the k bits at p as a number, after the digits that acc is
 unfoldable pub num : ℕ → ℕ → Stream → ℕ → ℕ
 num zero acc s p = acc
 num (suc k) acc s p = num k (acc * 2 + bit (s p)) s (suc p)

@@ -17,7 +17,7 @@ unfoldable pub zeros : ℕ → Stream → ℕ → ℕ
 zeros zero s p = zero
 zeros (suc f) s p = unlessOne (s p) (zeros f s (suc p))
 
--- what stands behind a head: a number and the place behind it, or a bad code
+-- what stands after a head: a number and the place after it, or a bad code
 pub data Tail : Type 0 where
   badTail : Tail
   number : ℕ → ℕ → Tail
@@ -33,7 +33,7 @@ tailAt s p z = pickTail (leb z maxZeros) (number (num (suc (suc z)) 0 s (p + z))
 unfoldable pub readTail : Stream → ℕ → Tail
 readTail s p = tailAt s p (zeros (suc maxZeros) s p)
 
--- a symbol of the AC stream and the place behind it
+-- a symbol of the AC stream and the place after it
 pub data Symbol : Type 0 where
   badSymbol : Symbol
   run : ℕ → ℕ → Symbol
@@ -56,7 +56,7 @@ byHead s p true true = run 1 (suc (suc p))
 unfoldable pub readSymbol : Stream → ℕ → Symbol
 readSymbol s p = byHead s p (s p) (s (suc p))
 
--- a code of the DC stream and the place behind it
+-- a code of the DC stream and the place after it
 pub data DcCode : Type 0 where
   badDc : DcCode
   zeroStep : ℕ → DcCode

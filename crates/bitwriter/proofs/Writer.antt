@@ -76,6 +76,6 @@ wrote-whole {o} {p} {bs} {a} w e =
     ∙ lay-lay o p (w .ws) h (padToByte (bitsOf (a .nbits) (a .acc)))
     ∙ ap (lay o p) (sym (pad-append (w .ws) (bitsOf (a .nbits) (a .acc)) (w .small)) ∙ ap padToByte (w .bits))
 
--- and the place behind it
+-- and the place after it
 pub whole-place : {o : List ℕ} {p : ℕ} {bs : List Bool} {a : BitAcc} {o' : List ℕ} → Wrote o p bs a o' → flushed a ≡ start (p + bytesFor (length bs))
 whole-place {o} {p} {bs} {a} w = let e : a .pos + bytesFor (a .nbits) ≡ p + bytesFor (length bs) = omega (arith, wrote-count w) in ap start e

@@ -1,4 +1,4 @@
--- No bad code in a plane: none in its first block, and none behind it.
+-- No bad code in a plane: none in its first block, and none after it.
 use mathlib.Core.Path.{_≡_, refl, sym, ap, _∙_}
 use mathlib.Core.Bool.{Bool, true, false}
 use mathlib.Core.List.{List}
@@ -85,7 +85,7 @@ first-good : (b : BlockRead) (x : PlaneRead) → goodPlane (blockFirst b x) ≡ 
 first-good b badPlane = refl
 first-good b (planeRead bs qd qa) = refl
 
--- and so are the blocks behind it
+-- and so are the blocks after it
 pub good-rest : (shift n : ℕ) (dc ac : List ℕ) (s : Stand) (g : BlockGot) → NextBlock shift dc ac s g → goodPlane (readOn shift (suc n) dc ac s) ≡ true
     → goodPlane (readOn shift n dc ac (g .next)) ≡ true
 good-rest shift n dc ac s g b e = sym (first-good (blockOf g) (readOn shift n dc ac (g .next))) ∙ sym (ap goodPlane (b .first n)) ∙ e

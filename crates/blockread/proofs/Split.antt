@@ -1,4 +1,4 @@
--- A plane's first block, and the blocks behind it.
+-- A plane's first block, and the blocks after it.
 use mathlib.Core.Path.{_≡_, refl, sym, ap, ap₂, _∙_}
 use mathlib.Core.Bool.{Bool, true, false, not}
 use mathlib.Core.List.{List, []}

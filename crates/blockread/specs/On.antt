@@ -15,7 +15,7 @@ use Rattle.calls.specs.ReadPlane.{BlockRead, Blocks, badBlocks, blocks, readBlo
 use Rattle.blockread.specs.declared.Stand.{Stand}
 use Rattle.blockread.specs.declared.BlockGot.{BlockGot}
 
--- both streams, behind a block whose DC was `before`
+-- both streams, after a block whose DC was `before`
 abbrev pub onStreams : ℕ → ℤ → DcSteps → Blocks → PlaneRead
 onStreams shift before badSteps bs = badPlane
 onStreams shift before (dcSteps ts qd) badBlocks = badPlane

@@ -9,14 +9,14 @@ ghost use Rattle.calls.specs.ReadPlane.{readPlaces};
 ghost use Rattle.blockread.specs.ac.Places.{goodPlaces, Placed};
 use bitreader::AcCursor;
 
-// The places of a block in natural order, and where they end: the cursor behind the last code, and the zeros still to come.
+// The places of a block in natural order, and where they end: the cursor after the last code, and the zeros still to come.
 pub struct AcGot {
     pub c: AcCursor,
     pub pending: u64,
     pub nat: [i16; 64],
 }
 
-// Reads the symbols of one block, behind `pending` zeros: each value goes to its natural place, a run skips places.
+// Reads the symbols of one block, after `pending` zeros: each value goes to its natural place, a run skips places.
 pub fn read_block(s: &[u8], c0: AcCursor, pending: u64, z: &[u8; 64]) -> AcGot
     requires { ⌜ At (now s) c0 × (c0 .pos < 2 ^ 59) × (pending < 2 ^ 57) × (now z ≡ zigzag)
         × (goodPlaces (readPlaces 64 (bitAt (now s)) (c0 .pos) pending) ≡ true) ⌝ }

@@ -40,7 +40,7 @@ pub fn begin(dc: &[u8], ac: &[u8], at: Positions) -> Stand
     }
 }
 
-// The bytes behind both streams' codes.
+// The bytes after both streams' codes.
 pub fn ends(s: Stand) -> Positions
     requires { ⌜ (s .dc .pos < 2 ^ 62) × (s .ac .pos < 2 ^ 62) ⌝ }
     ensures { λ r. ⌜ (r .dc ≡ bytesFor (s .dc .pos)) × (r .ac ≡ bytesFor (s .ac .pos)) ⌝ }

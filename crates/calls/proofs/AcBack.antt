@@ -53,7 +53,7 @@ less-one r = omega arith
 run-rest : (r q : ℕ) (next : ℕ → ℕ → Places) → bySymbol (run (suc r) q) next ≡ placeThen (pos 0) (next q r)
 run-rest r q next = ap (λ n. placeThen (pos 0) (next q n)) (less-one r)
 
--- a run, then what is read behind it
+-- a run, then what is read after it
 run-first : (r k : ℕ) (s : Stream) (p : ℕ) (cs : List ℤ) (q′ r′ : ℕ) → r < 2 ^ 56 → At s p (runCode r)
     → readPlaces k s (p + length (runCode r)) 0 ≡ places cs q′ r′
     → readPlaces (r + k) s p 0 ≡ places (replicate r (pos 0) ++ cs) q′ r′
@@ -62,7 +62,7 @@ run-first zero k s p cs q′ r′ l a e = rw zero-add (rw add-zero at e)
 run-first (suc r) k s p cs q′ r′ l a e =
     rw (suc-add, run-back s p r l a, run-rest r (p + length (runCode (suc r))) (λ q m. readPlaces (r + k) s q m), coming r k s (p + length (runCode (suc r))) cs q′ r′ e)
 
--- a value, then what is read behind it
+-- a value, then what is read after it
 value-first : (c : ℤ) → Value c → (k : ℕ) (s : Stream) (p : ℕ) (cs : List ℤ) (q′ r′ : ℕ) → At s p (valueCode (codeOf c))
     → readPlaces k s (p + length (valueCode (codeOf c))) 0 ≡ places cs q′ r′
     → readPlaces (suc k) s p 0 ≡ places (c ∷ cs) q′ r′

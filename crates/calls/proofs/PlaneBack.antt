@@ -1,4 +1,4 @@
--- A plane's own streams are read back, with anything before and behind them.
+-- A plane's own streams are read back, with anything before and after them.
 use mathlib.Core.Path.{_≡_, refl, sym, ap, ap₂, _∙_, subst}
 use mathlib.Core.Bool.{Bool, true, false}
 use mathlib.Core.List.{List, [], _∷_, _++_, map, append-assoc}

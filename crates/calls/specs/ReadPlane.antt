@@ -10,7 +10,7 @@ use Rattle.bits.specs.Signed.{signedOf}
 use Rattle.bits.specs.Read.{Symbol, badSymbol, run, value, readSymbol, DcCode, badDc, zeroStep, step, readDc}
 use Rattle.calls.specs.Streams.{dcOf, withDc}
 
--- AC, place by place: the coefficients read, the bit behind the last code, and the zeros of a run that are still to come
+-- AC, place by place: the coefficients read, the bit after the last code, and the zeros of a run that are still to come
 pub data Places : Type 0 where
   badPlaces : Places
   places : List ℤ → ℕ → ℕ → Places
@@ -97,7 +97,7 @@ withDcs [] bs = []
 withDcs (d ∷ ds) [] = []
 withDcs (d ∷ ds) (b ∷ bs) = record { symbolRead = b .symbolRead; coeffs = withDc d (b .coeffs) } ∷ withDcs ds bs
 
--- a plane as it is read: its blocks, and the bytes behind its two streams
+-- a plane as it is read: its blocks, and the bytes after its two streams
 pub data PlaneRead : Type 0 where
   badPlane : PlaneRead
   planeRead : List BlockRead → ℕ → ℕ → PlaneRead

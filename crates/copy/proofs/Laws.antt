@@ -1,4 +1,4 @@
--- Laws of bytes that are stored and copied one behind the other.
+-- Laws of bytes that are stored and copied one after the other.
 use mathlib.Core.Path.{_≡_, refl, sym, ap, ap₂, _∙_}
 use mathlib.Core.List.{List, [], _∷_, _++_}
 use Prim.Native.Nat.{ℕ, _+_, _-_, _≤_, _<_}

@@ -80,7 +80,7 @@ put-all b ac k s (u ∷ us) out t n e w r =
     ∙ ap (λ (x : List ℕ). accepted (record { state = afterAll b' (u ∷ us); bytes = x }))
     (ap (λ (p : ℕ). lay out' p (allStreams (u ∷ us))) (ap (λ (p : ℕ). b .at + p) (sym (stream-length s))) ∙ lay-lay out (b .at) (streamBytes s) (omega arith) (allStreams (u ∷ us))))
 
--- ---- the state between DC and AC streams, and behind them
+-- ---- the state between DC and AC streams, and after them
 all-slices : (b : Build) (ss : List (List ℕ)) → afterAll b ss .slices ≡ b .slices
 all-slices b [] = refl
 all-slices b (s ∷ ss) = all-slices (afterStream b (b .at + (4 + length s))) ss

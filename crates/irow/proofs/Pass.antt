@@ -173,7 +173,7 @@ module _ (round : ℤ) (shift : ℕ) (a : List ℤ) where
   unfolding pairedRows sideOf inverseMirrorOf
   rows-law = tab-ext 64 (λ i h. either (i / 8) (i % 8) (ltb (i % 8) 4) (omega arith) (omega arith) refl)
 
--- ---- the shift, before or behind pair_up
+-- ---- the shift, before or after pair_up
 
 shift-at : (n : ℕ) (a : List ℤ) (i : ℕ) → i < 64 → lane (shiftedOf n a) i ≡ sraOf (lane a i) n
 unfolding shiftedOf

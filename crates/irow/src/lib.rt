@@ -297,7 +297,7 @@ pub fn shifted(a: &[i16; 64], n: u32) -> [i16; 64]
 }
 
 // The row pass, after the shift n, on a block whose rows pair_up ordered, each row's right half mirrored (proofs/Pass, rows-law). The
-// table is made here: the compiler multiplies by its constants. The shift stands behind pair_up, so that the compiler makes one
+// table is made here: the compiler multiplies by its constants. The shift stands after pair_up, so that the compiler makes one
 // shuffle of each spread row: it would put two that follow each other together, and need three.
 pub fn paired_rows(a: &[i16; 64], n: u32, round: i32, shift: u32) -> [i16; 64]
     requires { ⌜ (n < 16) × (shift < 32) ⌝ }

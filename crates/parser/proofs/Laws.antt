@@ -92,7 +92,7 @@ module _ (n limit : ℕ) (f : List ℕ) (p : ℕ) {k : ℕ} (h : k ≤ n) where
   pub past-no : {m : ℕ} → streams k limit f p ≡ refused m → streams n limit f p ≡ refused m
   past-no e = cut ∙ ap (λ (a : Answer ℕ). andThen a (λ q. streams (n - k) limit f q)) e
 
--- ---- a stream behind n others
+-- ---- a stream after n others
 pub no-walk : (limit : ℕ) (f : List ℕ) (p : ℕ) → streams 0 limit f p ≡ accepted p
 unfolding streams
 no-walk limit f p = refl

@@ -20,7 +20,7 @@ use ask::numbers::NO_START;
 use ask::numbers::NO_STRIDE;
 use calls::Stream;
 
-// Stores one byte a block, for n blocks of a stream that was judged good; the byte behind them.
+// Stores one byte a block, for n blocks of a stream that was judged good; the byte after them.
 fn store_report(ac: &[u8], at: usize, n: usize, report: &mut [u8]) -> usize
     requires { ⌜ (at ≤ startMax) × (n ≤ 1920) × (n ≤ length (now report))
         × (goodEnds (blockEnds (readBlocks n (bitAt (now ac)) (8 * at) 0)) ≡ true) ⌝ }

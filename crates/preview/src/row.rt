@@ -11,7 +11,7 @@ ghost use Rattle.preview.specs.row.Row.{RowDone, Stored};
 use bitreader::AcCursor;
 ghost use Rattle.acread.specs.through.Codes.{goodSteps};
 
-// What a row of blocks leaves: the cursor behind its last code, and its last DC.
+// What a row of blocks leaves: the cursor after its last code, and its last DC.
 pub struct RowEnd {
     pub c: AcCursor,
     pub last: i16,
@@ -43,7 +43,7 @@ fn preview_row(
     RowEnd { c, last }
 }
 
-// Stores both rows of a stream that was judged good; the byte behind its codes.
+// Stores both rows of a stream that was judged good; the byte after its codes.
 pub fn store_preview(
     shift: u32,
     place: usize,

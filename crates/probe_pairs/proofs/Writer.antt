@@ -20,7 +20,7 @@ room-of a n o g h = record { few = g .0 .0; low = g .0 .1; room = omega (arith, 
 pub grown-of : (a r : BitAcc) {o o' : List ℕ} (bs : List Bool) → length bs ≤ 63 → Put a o bs r o' → Grown a r
 grown-of a r bs h w = omega (arith, wrote-count w, length-append (bitsOf (a .nbits) (a .acc)) bs, length-bitsOf (a .nbits) (a .acc))
 
--- eight bytes a pair are enough: b bits are written behind i pairs of n, from the byte at on
+-- eight bytes a pair are enough: b bits are written after i pairs of n, from the byte at on
 pub pair-fits : (at n i b L : ℕ) → at ≤ L → n ≤ (L - at) / 8 → i < n → b ≤ 8 * at + 63 * i → b + 63 ≤ 8 * L
 pair-fits at n i b L h m l e = omega arith
 

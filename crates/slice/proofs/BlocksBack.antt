@@ -1,4 +1,4 @@
--- What is read of a plane is near what was quantised, block by block; and of planes one behind the other.
+-- What is read of a plane is near what was quantised, block by block; and of planes one after the other.
 use mathlib.Core.Path.{_≡_, refl, sym, ap, ap₂, _∙_, subst}
 use mathlib.Core.List.{List, [], _∷_, _++_, map, append-assoc}
 use Prim.Native.Nat.{ℕ, zero, suc, _+_, _*_, _^_, _/_, _≤_, _<_}
@@ -96,7 +96,7 @@ fine-join σ [] ys f g = g
 fine-join σ (x ∷ xs) ys f g = (f .0, fine-join σ xs ys (f .1) g)
 
 module _ (σ : Settings) where
-  -- planes read one behind the other
+  -- planes read one after the other
   pub record ManyIs (ps : List Plane) (b : Buffers) (at end : PerStream) : Type 0 where
     pub got : List (List BlockRead)
     pub is : readPlanes (σ .shift) ps b at ≡ planesRead got end

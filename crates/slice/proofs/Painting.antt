@@ -141,7 +141,7 @@ module _ (depth : Depth) (preset place : ℕ) where
   block-front blocks more n x h = ap (λ (z : List ℕ). getD z x 0) (map-front (blockSamples depth preset place) blocks more n [] h)
 
 module _ (depth : Depth) (preset : ℕ) (p : Plane) (eights : p .stride % 8 ≡ 0) where
-  -- the block b behind the blocks so far, at its own corner
+  -- the block b after the blocks so far, at its own corner
   pub painted-more : (j k c : ℕ) (blocks : List BlockRead) (b : BlockRead) (rows y : List ℕ) → j < 2 → k < columnsOf (p .stride)
       → length blocks ≡ j * columnsOf (p .stride) + k → c ≡ 8 * j * p .stride + 8 * k → 16 * p .stride ≤ length (p .samples)
       → rows ≡ paintedRows depth preset p blocks (length blocks)

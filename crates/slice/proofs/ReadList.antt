@@ -46,7 +46,7 @@ own-append σ (x ∷ xs) ys =
     A : List ℕ
     A = acStream (coefficients σ x)
 
--- behind xs, then behind ys
+-- after xs, then after ys
 ends-add : (σ : Settings) (at : PerStream) (xs ys : List Plane)
     → together (together at (lengthsOf (ownStreams σ xs))) (lengthsOf (ownStreams σ ys)) ≡ together at (lengthsOf (ownStreams σ (xs ++ ys)))
 ends-add σ at xs ys =

@@ -1,4 +1,4 @@
--- Samples behind 16 x stride play no part: neither in the coefficients, nor do they change when rows are made.
+-- Samples after 16 x stride play no part: neither in the coefficients, nor do they change when rows are made.
 use mathlib.Core.Path.{_≡_, refl, sym, ap, ap₂, _∙_, subst}
 use mathlib.Core.List.{List, [], _∷_, _++_, map}
 use Prim.Native.Nat.{ℕ, zero, suc, _+_, _*_, _/_, _%_, _≤_, _<_}

@@ -49,7 +49,7 @@ encodeSlice σ n p0 p1 p2 p3 b at = encode (oneSlice σ n p0 p1 p2 p3) b at
 
 -- ---- reading
 
--- planes read one behind the other
+-- planes read one after the other
 pub data PlanesRead : Type 0 where
   badPlanes : PlanesRead
   planesRead : List (List BlockRead) → PerStream → PlanesRead

@@ -39,7 +39,7 @@ withinBlock stride i = i / stride % 8 * 8 + i % stride % 8
 unfoldable pub lanesAt : Depth → Plane → ℕ → ℕ → List ℤ
 lanesAt depth p j k = tab 64 (λ i. laneOf depth (sampleAt p (8 * j + i / 8) (8 * k + i % 8)))
 
--- the sample at i: that of its block, or behind the 16 rows what stood there
+-- the sample at i: that of its block, or after the 16 rows what stood there
 abbrev pub sampleFrom : List (List ℕ) → ℕ → ℕ → ℕ → ℕ
 sampleFrom blocks stride i old = cond (ltb i (16 * stride)) (getD (getD blocks (blockAt stride i) []) (withinBlock stride i) 0) old
 

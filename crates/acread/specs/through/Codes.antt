@@ -16,7 +16,7 @@ abbrev pub goodSteps : DcSteps → Bool
 goodSteps badSteps = false
 goodSteps (dcSteps ts q) = true
 
--- the bit behind the codes; question 8
+-- the bit after the codes; question 8
 abbrev pub dcBit : DcSteps → Answer ℕ
 dcBit badSteps = refused noCode
 dcBit (dcSteps ts q) = accepted q

@@ -1,4 +1,4 @@
--- `bitreader::long_number` meets its contract: the leading zeros of the word are the stream's, and the digits behind them are at the top of a second word.
+-- `bitreader::long_number` meets its contract: the leading zeros of the word are the stream's, and the digits after them are at the top of a second word.
 -- Assumes nothing.
 use mathlib.Core.Path.{_≡_, ap, _∙_}
 use Prim.Native.Nat.{ℕ, suc, _+_, _-_, _/_, _%_, _^_, _≤_, _<_}

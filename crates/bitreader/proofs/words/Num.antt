@@ -32,7 +32,7 @@ unfolding num
 split zero n a s p = rw (zero-add n, add-zero p)
 split (suc m) n a s p = rw (suc-add m n, add-suc p m) (split m n (a * 2 + bit (s p)) s (suc p) ∙ ap (num n (num m (a * 2 + bit (s p)) s (suc p)) s) (suc-add p m))
 
--- m bits, and n bits behind them
+-- m bits, and n bits after them
 pub num-add : (m n : ℕ) (s : Stream) (p : ℕ) → num (m + n) 0 s p ≡ num m 0 s p * 2 ^ n + num n 0 s (p + m)
 num-add m n s p = split m n 0 s p ∙ num-acc n (num m 0 s p) s (p + m)
 
@@ -93,7 +93,7 @@ zeros-num (suc z) (suc f) s p h = go (s p) refl h (λ l. zeros-num z f s (suc p)
     go true e l r = absurd (not-suc-le-zero l)
     go false e l r = rw e (r (le-of-suc-le-suc l))
 
--- behind fewer zeros than are counted stands a one
+-- after fewer zeros than are counted stands a one
 pub zeros-one : (f : ℕ) (s : Stream) (p : ℕ) → zeros f s p < f → s (p + zeros f s p) ≡ true
 unfolding zeros
 zeros-one zero s p h = absurd (not-suc-le-zero h)

@@ -53,7 +53,7 @@ num-most l i k h = let e : 8 * k ≤ 56 = omega arith in lt-of-lt-of-le (num-lt 
 up : (b k : ℕ) → b * 2 ^ k < 2 ^ 64 → b * 2 ^ k % 2 ^ 64 ≡ b * 2 ^ k
 up b k h = mod-eq-of-lt h
 
--- one byte more, behind a
+-- one byte more, after a
 module _ (a b k t : ℕ) (hb : b * 2 ^ k < 2 ^ t) where
   both : {x y : ℕ} → x ≡ a * 2 ^ t → y ≡ b * 2 ^ k → bitOr x y ≡ a * 2 ^ t + b * 2 ^ k
   both e f = ap₂ bitOr e f ∙ or-shifted a t (b * 2 ^ k) hb
@@ -74,7 +74,7 @@ flat a b c d e f g h ha hb hc hd he hf hg hh =
     x7 ∙ omega arith
 
 module _ (l : List ℕ) (i : ℕ) (b : (j : ℕ) → getD l j 0 < 256) where
-  -- one byte, and n bits behind it
+  -- one byte, and n bits after it
   next : (k n : ℕ) → i + k < length l → num (8 + n) 0 (bitAt l) (8 * (i + k)) ≡ getD l (i + k) 0 * 2 ^ n + num n 0 (bitAt l) (8 * (i + (k + 1)))
   next k n h =
       let e : 8 * (i + k) + 8 ≡ 8 * (i + (k + 1)) = omega arith in

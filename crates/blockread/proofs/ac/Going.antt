@@ -1,4 +1,4 @@
--- The loop over a block's symbols: what is still to be read from here, behind the coefficients that are in their places, is the whole block.
+-- The loop over a block's symbols: what is still to be read from here, after the coefficients that are in their places, is the whole block.
 use mathlib.Core.Path.{_≡_, refl, sym, ap, _∙_}
 use mathlib.Core.Bool.{true}
 use mathlib.Core.List.{List, [], _∷_, _++_, append-assoc}
@@ -20,7 +20,7 @@ use Rattle.blockread.specs.ac.Places.{goodPlaces, Placed}
 use Rattle.blockread.proofs.ac.Scan.{scan-zero, scan-set}
 use Rattle.blockread.proofs.ac.Symbols.{behind, behind-good, value-by, run-by, zeros-first, value-turn, run-turn, some, over}
 
--- the cursor c stands at a place of the block at p, behind whose first zeros r come; nat has what was got, and zeros behind it
+-- the cursor c stands at a place of the block at p, after whose first zeros r come; nat has what was got, and zeros after it
 pub record Going (s : List ℕ) (p r : ℕ) (c : AcCursor) (place : ℕ) (nat : List ℤ) : Type 0 where
   pub got : List ℤ
   pub same : readPlaces 64 (bitAt s) p r ≡ behind got (readPlaces (64 - place) (bitAt s) (c .pos) (place - 64))

@@ -15,7 +15,7 @@ abbrev pub goodPlaces : Places → Bool
 goodPlaces badPlaces = false
 goodPlaces (places cs q r) = true
 
--- the places of a block at the bit p, behind r zeros: at most 64 codes of 112 bits were read
+-- the places of a block at the bit p, after r zeros: at most 64 codes of 112 bits were read
 pub record Placed (s : List ℕ) (p r : ℕ) (g : AcGot) : Type 0 where
   pub answer : readPlaces 64 (bitAt s) p r ≡ places (scanOf (g .nat)) (g .c .pos) (g .pending)
   pub holds : At s (g .c)

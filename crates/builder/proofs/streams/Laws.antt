@@ -53,7 +53,7 @@ puts b ac slice n len e = go (leb (b .at + (4 + n)) len) refl (leb n (limitOf ac
     go true x true y false z = absurd (let k = rw (x, y, z) at e in omega arith)
     go true x true y true z = record { room = leb-true (b .at + (4 + n)) len x; turn = turn-slice ac slice b z }
 
--- ---- the state behind a stream
+-- ---- the state after a stream
 abbrev with : Build → Bool → ℕ → ℕ → Build
 with b t n at = record { slices = b .slices; maxDcLen = b .maxDcLen; maxAcLen = b .maxAcLen; acTurn = t; next = n; at = at }
 

@@ -1,4 +1,4 @@
--- The reading half of the loops over a plane's blocks, behind the first m of them.
+-- The reading half of the loops over a plane's blocks, after the first m of them.
 use mathlib.Core.Path.{_≡_, refl, sym, ap, _∙_}
 use mathlib.Core.Bool.{true}
 use mathlib.Core.List.{List, [], map}

@@ -84,7 +84,7 @@ module _ {σ : Settings} {p : Plane} {b : Buffers} {at : PerStream} where
       let n = near (omega (arith, h, o .plane .stride-le)) (o .dc-start) (o .ac-start) i in
       (i .going .ready, n .0, n .1, omega (arith, o .settings .shift-le), e, good-next (σ .shift) (blocksOf (p .stride)) (b .dcBytes) (b .acBytes) (at .dc) (at .ac) (inFront (columnsOf (p .stride)) j k) s (o .good) h (i .going))
 
-  -- its corner, with eight rows behind it
+  -- its corner, with eight rows after it
   pub inside : (j k : ℕ) {s : Stand} {rows : List ℕ} {c : ℕ} → PlaneGood σ p b at → j < 2 → k < columnsOf (p .stride) → c ≡ 8 * j * p .stride + 8 * k
       → Behind σ p b at j k s rows → c + (7 * p .stride + 8) ≤ length rows
   inside j k o hj hk e i = omega (arith, corner-fits j k (p .stride) hj hk, o .plane .rows-long, as-long i)

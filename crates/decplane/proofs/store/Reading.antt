@@ -1,4 +1,4 @@
--- A plane whose streams hold no bad code, block by block: what is still to be read from a stand is the plane behind the blocks that were read.
+-- A plane whose streams hold no bad code, block by block: what is still to be read from a stand is the plane after the blocks that were read.
 use mathlib.Core.Path.{_≡_, refl, sym, ap, _∙_}
 use mathlib.Core.Bool.{true, false}
 use mathlib.Core.List.{List, [], _∷_, map}
@@ -13,7 +13,7 @@ use Rattle.blockread.specs.declared.Stand.{Stand}
 use Rattle.blockread.proofs.Split.{read-plane, read-none}
 use Rattle.decplane.specs.store.Storing.{blocksGot}
 
--- the plane behind its first m blocks
+-- the plane after its first m blocks
 abbrev pub behind : ℕ → PlaneRead → PlaneRead
 behind m badPlane = badPlane
 behind m (planeRead bs qd qa) = planeRead (drop m bs) qd qa

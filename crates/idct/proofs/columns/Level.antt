@@ -1,4 +1,4 @@
--- The level may be added behind the columns: at level 0 their sums are as they were shifted.
+-- The level may be added after the columns: at level 0 their sums are as they were shifted.
 use mathlib.Core.Path.{_≡_, refl, sym, ap, _∙_}
 use mathlib.Core.List.{List}
 use Prim.Native.Nat.{ℕ, zero, suc, _/_, _%_, _<_, _^_}

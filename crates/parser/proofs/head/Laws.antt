@@ -25,7 +25,7 @@ format-small f = go (eqb (byteAt f 0) 3) refl
     go true e = rw e (omega arith)
     go false e = rw e (omega arith)
 
--- behind the header, still in the frame
+-- after the header, still in the frame
 module _ (f : List ℕ) {at : ℕ} (e : at ≡ formatAt f) where
   pub header-fits : Fits w64 (at + 3)
   header-fits = omega (arith, format-small f)

@@ -25,7 +25,7 @@ h s = s .args .height
 abbrev f : tie.Start → List ℕ
 f s = s .args .frame .now
 
--- behind the questions: every answer is yes
+-- after the questions: every answer is yes
 abbrev start : tie.Else1 → tie.Start
 start n = n .before .before .before
 

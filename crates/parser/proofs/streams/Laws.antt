@@ -122,7 +122,7 @@ one-end limit f p {q} e = go (leb (p + 4) (length f)) refl (leb (lengthAt f p) l
     go true x true y false z = absurd (never (sym (one-short limit f p (leb-true _ _ x) (leb-true _ _ y) (leb-false _ _ z)) ∙ e))
     go true x true y true z = same (sym e ∙ one-whole limit f p (leb-true _ _ x) (leb-true _ _ y) (leb-true _ _ z))
 
--- an accepted stream ends behind its length word
+-- an accepted stream ends after its length word
 module _ (limit : ℕ) (f : List ℕ) (p : ℕ) {q : ℕ} (e : oneStream limit f p ≡ accepted q) where
   pub part-fits : Fits w64 q → Fits w64 (p + 4)
   part-fits k = omega (arith, one-end limit f p e)

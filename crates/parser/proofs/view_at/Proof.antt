@@ -30,7 +30,7 @@ f s = s .args .frame .now
 abbrev slice : tie.Start → ℕ
 slice s = s .args .slice
 
--- behind the questions: every answer is yes
+-- after the questions: every answer is yes
 abbrev start : tie.Else1 → tie.Start
 start e = e .before .before .before
 

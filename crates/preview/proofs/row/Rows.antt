@@ -1,4 +1,4 @@
--- Two rows of blocks, one behind the other.
+-- Two rows of blocks, one after the other.
 use mathlib.Core.Path.{_≡_, refl, sym, ap, ap₂, subst, _∙_}
 use mathlib.Core.Bool.{true, false}
 use mathlib.Core.List.{List, [], _++_, map, append-nil}

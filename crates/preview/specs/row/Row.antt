@@ -17,7 +17,7 @@ use Rattle.blockread.specs.dc.Steps.{stepList, bytesFrom}
 use Rattle.preview.specs.declared.row.RowEnd.{RowEnd}
 use Rattle.acread.specs.through.Codes.{goodSteps, dcBit, dcEnd}
 
--- a row of n blocks at the bit p of s, behind a block whose DC was `before`, stored in `out`. However many blocks follow, their bytes
+-- a row of n blocks at the bit p of s, after a block whose DC was `before`, stored in `out`. However many blocks follow, their bytes
 -- and their end are those that the cursor and the DC handed back lead to, if no code is bad
 pub record RowDone (s : List ℕ) (shift : ℕ) (level : ℤ) (n p : ℕ) (before : ℤ) (out exit : List ℕ) (e : RowEnd) : Type 0 where
   pub bytes : List ℕ
@@ -30,7 +30,7 @@ pub record RowDone (s : List ℕ) (shift : ℕ) (level : ℤ) (n p : ℕ) (befor
       → bytesFrom shift level (n + m) (readSteps (n + m) (bitAt s) p) before ≡ bytes ++ bytesFrom shift level m (readSteps m (bitAt s) (e .c .pos)) (e .last)
   pub ends : (m : ℕ) → goodSteps (readSteps (n + m) (bitAt s) p) ≡ true → dcBit (readSteps (n + m) (bitAt s) p) ≡ dcBit (readSteps m (bitAt s) (e .c .pos))
 
--- two rows of n blocks by these DC codes: the bytes stored in them, and the byte q behind the codes
+-- two rows of n blocks by these DC codes: the bytes stored in them, and the byte q after the codes
 pub record Stored (shift place n : ℕ) (upper upper′ lower lower′ : List ℕ) (x : DcSteps) (q : ℕ) : Type 0 where
   pub end : accepted q ≡ dcEnd x
   pub above : upper′ ≡ lay upper 0 (take n (previewBytes shift place (2 * n) (stepList x)))

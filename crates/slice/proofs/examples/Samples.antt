@@ -46,7 +46,7 @@ at-shift s = record { depth = eight; preset = 0; shift = s }
 bytes : List ℕ → List ℕ → Buffers
 bytes d a = record { dcBytes = d; acBytes = a }
 
--- a DC code as it is read: its number (0 for a zero step) and the place behind it; nothing for a bad code
+-- a DC code as it is read: its number (0 for a zero step) and the place after it; nothing for a bad code
 dcRead : DcCode → List ℕ
 dcRead badDc = []
 dcRead (zeroStep q) = 0 ∷ q ∷ []

@@ -92,7 +92,7 @@ walk-suc (suc k) limit f p {at} {q} e d = by (oneStream limit f p) refl (λ s x.
 pub walk-on : (k limit : ℕ) (f : List ℕ) (p : ℕ) {at q : ℕ} → streams k limit f p ≡ accepted at → oneStream limit f at ≡ accepted q → streams (k + 1) limit f p ≡ accepted q
 walk-on k limit f p e d = ap (λ (n : ℕ). streams n limit f p) (add-one k) ∙ walk-suc k limit f p e d
 
--- the view of the stream behind k others
+-- the view of the stream after k others
 pub view-there : (k limit : ℕ) (f : List ℕ) (p : ℕ) {at q : ℕ} → streams k limit f p ≡ accepted at → oneStream limit f at ≡ accepted q
     → numbersOf (nthStream k limit f p) ≡ (at + 4) ∷ (q - (at + 4)) ∷ []
 view-there k limit f p {at} {q} e d =

@@ -28,7 +28,7 @@ one-within limit f p {q} e = go (leb (p + 4) (length f)) refl (leb (lengthAt f p
     go true x false y = absurd (never (sym (one-long limit f p (leb-true _ _ x) (leb-false _ _ y)) ∙ e))
     go true x true y = omega (arith, one-end limit f p e, leb-true (lengthAt f p) limit y)
 
--- behind k of the n streams, at `at`: the table as it is then
+-- after k of the n streams, at `at`: the table as it is then
 pub record Walking (f : List ℕ) (n limit p from : ℕ) (table t : List ℕ) (at k : ℕ) : Type 0 where
   pub turn : k ≤ n
   pub inside : at ≤ length f

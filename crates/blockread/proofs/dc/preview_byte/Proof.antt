@@ -1,4 +1,4 @@
--- `blockread::dc::preview_byte`: four operations, one behind the other.
+-- `blockread::dc::preview_byte`: four operations, one after the other.
 use mathlib.Core.Path.{_≡_, ap, ap₂, _∙_}
 use Prim.Native.Nat.{ℕ, _%_}
 use borrow.Author.Needs.{needs, sfits-of}

@@ -21,7 +21,7 @@ given s =
       at = positionsBy (a .at);
     }
 
--- the places behind each pass
+-- the places after each pass
 abbrev start : tie.After-plane → tie.Start
 start c = c .before .before .before .before .before .before .before .before .before
 

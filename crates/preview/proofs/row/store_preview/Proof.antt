@@ -1,4 +1,4 @@
--- `preview::row::store_preview`: two rows, one behind the other.
+-- `preview::row::store_preview`: two rows, one after the other.
 use mathlib.Core.Path.{_≡_, _∙_}
 use native.Mathlib.Omega.{arith}
 use borrow.Author.Needs.{needs, sfits-of}

@@ -38,7 +38,7 @@ held s = s .args .held .now
 is-legal : (s : tie.Start) → LegalFrame (w s) (h s) (f s)
 is-legal s = legal (w s) (h s) (f s) (s .pre .0 .yes)
 
--- behind the first walk
+-- after the first walk
 abbrev start : tie.After-walk-views → tie.Start
 start v = v .before .before .before .before .before .before .before .before
 
@@ -80,7 +80,7 @@ first k = k .before .before .before .before
 dc-there : (k : tie.After-q) → dcStreams (w (start (first k))) (h (start (first k))) (f (start (first k))) ≡ accepted (k .q .given .0 .0)
 dc-there k = place-told (dc-is (first k)) (k .q .given .1)
 
--- behind the second walk, which goes on from q
+-- after the second walk, which goes on from q
 abbrev at-q : tie.After-walk-views2 → tie.After-q
 at-q u = u .before .before .before .before .before
 
@@ -113,7 +113,7 @@ returns c =
 abbrev ac-views : tie.After-walk-views2 → List ℕ
 ac-views u = viewsOf (λ i. nthStream i (maxAcLen (w (start (first (at-q u))))) (f (start (first (at-q u)))) (at-q u .q .given .0 .0)) (sliceCount (h (start (first (at-q u)))))
 
--- the table behind it
+-- the table after it
 ac-table : (u : tie.After-walk-views2) → u .walk-views2 .last .1 .1 .1 .1 .1 .0 ≡ walkLeft (streams (sliceCount (h (start (first (at-q u))))) (maxAcLen (w (start (first (at-q u))))) (f (start (first (at-q u)))) (at-q u .q .given .0 .0)) (first (at-q u) .walk-views .last .1 .1 .1 .1 .1 .0) (held (start (first (at-q u)))) (sliceCount (h (start (first (at-q u))))) (sliceCount (h (start (first (at-q u))))) (ac-views u)
 ac-table u =
     let v = first (at-q u) in

@@ -1,4 +1,4 @@
--- `views::walk::walk_views`: behind each stream the table holds the views so far.
+-- `views::walk::walk_views`: after each stream the table holds the views so far.
 use borrow.Author.Needs.{needs}
 use mathlib.Core.Path.{refl, sym}
 use Prim.Native.Nat.{_-_, _≤_}
