@@ -23,7 +23,7 @@ laid-part out at xs h =
     let rest = drop (at + length xs) out in
     ap (take (length xs)) (drop-at (take at out) (xs ++ rest) at (length-take-le at out h)) ∙ take-append-seam xs rest
 
-frame-is : (b : Build) (out : List ℕ) (at : ℕ) (xs : List ℕ) → at ≤ length out → b .at ≡ at + length xs → frameIn at (record { state = b; bytes = lay out at xs }) ≡ xs
+pub frame-is : (b : Build) (out : List ℕ) (at : ℕ) (xs : List ℕ) → at ≤ length out → b .at ≡ at + length xs → frameIn at (record { state = b; bytes = lay out at xs }) ≡ xs
 frame-is b out at xs h e =
     let n : b .at - at ≡ length xs = omega arith in
     ap (λ (k : ℕ). take k (drop at (lay out at xs))) n ∙ laid-part out at xs h
