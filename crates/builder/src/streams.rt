@@ -82,7 +82,14 @@ fn in_turn(b: Builder, slices: usize, kind: Kind, slice: usize) -> bool
 }
 
 // Questions 13 and 14 about a stream of n bytes, of a size that frames have.
-fn limit_and_turn(b: Builder, width: usize, height: usize, kind: Kind, slice: usize, n: usize) -> u32
+fn limit_and_turn(
+    b: Builder,
+    width: usize,
+    height: usize,
+    kind: Kind,
+    slice: usize,
+    n: usize,
+) -> u32
     requires { ⌜ sizeOk width height ≡ true ⌝ }
     ensures { λ r. ⌜ r ≡ firstNo (limitQuestion width (isAc kind) n ∷ turnQuestion height (builderSays b) (isAc kind) slice ∷ []) ⌝ }
 {
@@ -105,7 +112,15 @@ fn from_size(b: Builder, width: usize, height: usize, kind: Kind, slice: usize, 
 }
 
 // The first "no" among the questions about a stream of n bytes, 0 where there is none.
-fn stream_number(b: Builder, width: usize, height: usize, kind: Kind, slice: usize, n: usize, len: usize) -> u32
+fn stream_number(
+    b: Builder,
+    width: usize,
+    height: usize,
+    kind: Kind,
+    slice: usize,
+    n: usize,
+    len: usize,
+) -> u32
     ensures { λ r. ⌜ r ≡ firstNo (streamQuestions width height (builderSays b) (isAc kind) slice n len) ⌝ }
 {
     let room = fits_stream(len, b.at, n);

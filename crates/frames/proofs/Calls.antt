@@ -111,16 +111,14 @@ module _ (w h : ℕ) (head out : List ℕ) (at : ℕ) where
         go : (l : Bool) → eqb (b .state .next + 1) (sliceCount h) ≡ l → Reached w h head out at (dc ++ (s ∷ [])) ac (next (afterStream (sliceCount h) (b .state) end))
         go true l =
             rw (← after-last (sliceCount h) (b .state) end t l)
-            (made (record { acTurn = true; next = 0; at = end }) refl
-            (
+            (made (record { acTurn = true; next = 0; at = end }) refl (
               omega (arith, length-more dc s, dc-stage t .1, eqb-true (b .state .next + 1) (sliceCount h) l),
               ap length (sym (dc-stage t .0)),
               omega (arith, ap length (dc-stage t .0)),
             ))
         go false l =
             rw (← after-dc (sliceCount h) (b .state) end t l)
-            (made (record { acTurn = false; next = b .state .next + 1; at = end }) refl
-            (
+            (made (record { acTurn = false; next = b .state .next + 1; at = end }) refl (
               dc-stage t .0,
               omega (arith, length-more dc s, dc-stage t .1),
               below (eqb-false (b .state .next + 1) (sliceCount h) l),
