@@ -94,7 +94,7 @@ struct Handed {
     state: Builder,
 }
 
-fn handed(b: &Record, k: usize, number: u32, state: Builder) -> Handed {
+fn compared(b: &Record, k: usize, number: u32, state: Builder) -> Handed {
     let ac_turn = state.ac_turn;
     let next = state.next;
     Handed {
@@ -105,8 +105,8 @@ fn handed(b: &Record, k: usize, number: u32, state: Builder) -> Handed {
 
 fn step(b: &Record, bytes: &[u8], k: usize, s: Builder, out: &mut [u8]) -> Handed {
     match hand_over(b, bytes, k, s, out) {
-        StreamAnswer::Next(state) => handed(b, k, 0, state),
-        StreamAnswer::Refused(x, state) => handed(b, k, x, state),
+        StreamAnswer::Next(state) => compared(b, k, 0, state),
+        StreamAnswer::Refused(x, state) => compared(b, k, x, state),
     }
 }
 

@@ -60,7 +60,8 @@ fn built(run: &mut Run) {
             return run.report.check(kind, false, bytes.len(), || format!("stream refused with {number}: {p:?}"));
         }
         let last = slice + 1 == l.slices();
-        run.report.same(kind, &builder::complete(size, &state), &Ok(last), 0, || format!("ac {ac} slice {slice}: {p:?}"));
+        run.report
+            .same(kind, &builder::complete(size, &state), &Ok(last), 0, || format!("ac {ac} slice {slice}: {p:?}"));
     }
     if whole {
         let mut wanted = before;
