@@ -1,6 +1,5 @@
-// A block of coefficients becomes 8 by 8 samples in the rows from its corner on: dequantising and the inverse transform (idct_core of
-// dct.rs), then the block writer of a depth. The divisors are those of tables::decode_numbers: a caller makes them once for a plane.
-// idct_core does both depths: where it has one caller, as in reading, the compiler makes it part of it and no block goes through memory.
+// A block of coefficients becomes 8 by 8 samples in the rows from its corner on: dequantising and the inverse transform of a depth
+// (dct::eight, dct::ten), then its block writer. The divisors are those of tables::decode_numbers: a caller makes them once for a plane.
 ghost use mathlib.Core.Path.{_≡_};
 ghost use mathlib.Core.Bool.{true, false};
 ghost use Prim.Native.Nat.{_+_, _*_, _≤_};
@@ -13,7 +12,7 @@ ghost use Rattle.quant.specs.Quantise.{dequantShift, dequantiseWith};
 ghost use Rattle.idct.specs.Inverse.{inverseOf};
 ghost use Rattle.dct.specs.Decode.{numberSample};
 
-// The numbers of a block of coefficients in natural order: dequantised by the divisors d and transformed, the level not added.
+// The numbers of a block of coefficients of either depth.
 pub fn idct_core(nat: [i16; 64], d: &[u16; 64], ten: bool) -> [i16; 64]
     ensures { λ r. ⌜ r ≡ inverseOf ten (pos 0) (dequantiseWith (dequantShift ten) (now (d .entry)) nat) ⌝ }
 {
