@@ -9,7 +9,7 @@ use Rattle.calls.proofs.Legal.{reading-legal}
 use Rattle.slice.specs.Calls.{planesRead, byPlane, readPlanes, rowsMade, decode}
 use Rattle.judge.proofs.verdict.Laws.{passed, refused-is, accepted-is}
 use Rattle.judge.proofs.verdict.Planes.{one-good}
-use Rattle.decplane.specs.store.Storing.{planeIn, PlaneGood, PlaneStored}
+use Rattle.decplane.specs.Storing.{planeIn, PlaneGood, PlaneStored}
 
 module _ (σ : Settings) (p : Plane) (b : Buffers) (at : PerStream) where
   abbrev call : Call

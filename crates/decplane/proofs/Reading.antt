@@ -11,7 +11,7 @@ use Rattle.calls.specs.ReadPlane.{BlockRead, PlaneRead, badPlane, planeRead, re
 use Rattle.blockread.specs.On.{readOn, goodPlane, blockFirst}
 use Rattle.blockread.specs.declared.Stand.{Stand}
 use Rattle.blockread.proofs.Split.{read-plane, read-none}
-use Rattle.decplane.specs.store.Storing.{blocksGot}
+use Rattle.decplane.specs.Storing.{blocksGot}
 
 -- the plane after its first m blocks
 abbrev pub behind : ℕ → PlaneRead → PlaneRead

@@ -13,8 +13,8 @@ use Rattle.blockread.specs.On.{readOn, goodPlane, blockFirst, blockOf, Ready, N
 use Rattle.blockread.specs.declared.Stand.{Stand}
 use Rattle.blockread.specs.declared.BlockGot.{BlockGot}
 use Rattle.blockread.proofs.Good.{good-first}
-use Rattle.decplane.specs.store.Storing.{blocksGot}
-use Rattle.decplane.proofs.store.Reading.{behind, read-start, next-rest, next-at, good-behind, read-over}
+use Rattle.decplane.specs.Storing.{blocksGot}
+use Rattle.decplane.proofs.Reading.{behind, read-start, next-rest, next-at, good-behind, read-over}
 
 -- m blocks of n were read, from the bytes d and a on, and s is where reading stands
 pub record Going (shift n : ℕ) (dc ac : List ℕ) (d a m : ℕ) (s : Stand) : Type 0 where

@@ -1,18 +1,15 @@
--- `blockread::next_block`: the AC places, then the DC.
-use mathlib.Core.Path.{refl, sym, subst}
+-- `blockread::ten::next_block`: the AC places, then the DC.
+use mathlib.Core.Path.{refl}
 use native.Mathlib.Omega.{arith}
 use borrow.Author.Needs.{needs, sfits-of}
 use lib.IntN.{ℤ}
-use mir.Facts.{toZ-ofZ}
-use mir.Syntax.{w16}
-use mir.Val.{SFits}
 use Rattle.scalar.specs.Scalar.{addOf}
-use Rattle.scalar.proofs.Laws.{back, lane2}
+use Rattle.scalar.proofs.Laws.{lane2}
 use Rattle.calls.specs.ReadPlane.{settle}
-use Rattle.blockread.proofs.Split.{block-next}
+use Rattle.blockread.proofs.Split.{fits-back, block-next}
 use Rattle.blockread.proofs.Good.{first-steps, first-places}
-use Rattle.blockread.proofs.next_block.Statement.{statement}
-use Rattle.blockread.proofs.next_block.Tie as tie
+use Rattle.blockread.proofs.ten.next_block.Statement.{statement}
+use Rattle.blockread.proofs.ten.next_block.Tie as tie
 use Rattle.acread.specs.through.Codes.{stepOf}
 
 read-block-requires : tie.Need-read-block-requires
@@ -20,21 +17,6 @@ read-block-requires c κs =
     let s = c .before .before .before .before in
     let a = s .args in
     (s .pre .0 .ac-holds, omega (arith, s .pre .2), s .pre .0 .few, s .pre .4, first-places (a .shift) 0 (a .dc .now) (a .ac .now) (a .s) (s .pre .5))
-
-next-dc-requires : tie.Need-next-dc-requires
-next-dc-requires c κs = search needs
-
-array-copy-out-settled : tie.Need-array-copy-out-settled
-array-copy-out-settled c = search needs
-
-settled-requires : tie.Need-settled-requires
-settled-requires c κs = search needs
-
-array-set-from-nat : tie.Need-array-set-from-nat
-array-set-from-nat c = search needs
-
-fits-back : {z : ℤ} → SFits w16 z → SFits w16 (back w16 z)
-fits-back h = subst (SFits w16) (sym (toZ-ofZ h)) h
 
 returns : tie.Need-returns
 returns c =
@@ -56,8 +38,8 @@ next-block-spec =
     tie.close
     (tie.spec
     read-block-requires
-    next-dc-requires
-    array-copy-out-settled
-    settled-requires
-    array-set-from-nat
+    (λ c κs. search needs)
+    (λ c. search needs)
+    (λ c κs. search needs)
+    (λ c. search needs)
     returns)

@@ -1,16 +1,15 @@
--- `blockread::ac::read_block`: the loop over a block's symbols.
+-- `blockread::ten::read_block`: the loop over a block's symbols.
 use mathlib.Core.Path.{_≡_, ap, _∙_}
 use mathlib.Core.Logic.{⊎-elim}
-use Prim.Native.Nat.{ℕ, _-_, _<_}
+use Prim.Native.Nat.{_-_}
 use native.Mathlib.Omega.{arith}
 use borrow.Author.Needs.{needs, sfits-of}
 use mir.Facts.{toZ-ofZ}
 use lib.ListN.{getD}
-use Rattle.tables.specs.Zigzag.{zigzag}
-use Rattle.tables.proofs.Scan.{zigzag-below}
+use Rattle.blockread.proofs.ac.Scan.{place-below}
 use Rattle.blockread.proofs.ac.Going.{Going, going-start, going-same, going-some, going-value, going-run, going-over}
-use Rattle.blockread.proofs.ac.read_block.Statement.{statement}
-use Rattle.blockread.proofs.ac.read_block.Tie as tie
+use Rattle.blockread.proofs.ten.read_block.Statement.{statement}
+use Rattle.blockread.proofs.ten.read_block.Tie as tie
 
 abbrev Inv-loop : tie.InvT-loop
 Inv-loop s pending z nat₀ c₀ place₀ nat c place = Going s (c₀ .pos) pending c place nat
@@ -31,27 +30,20 @@ next-symbol-requires c κs =
 element-copy-out-j : tie.Need-element-copy-out-j Inv-loop μ-loop
 element-copy-out-j c = c .before .before .before .loop-test .taken
 
--- a place of the scan is below 64
-below : (z : _) (place : ℕ) → z ≡ zigzag → place < 64 → getD z place 0 < 64
-below z place e b = rw e (zigzag-below place b)
-
 cast-j : tie.Need-cast-j Inv-loop μ-loop
 cast-j c =
     let t = c .before .before .before .before in
-    omega (arith, below (t .before .before .before .args .z .now) (t .before .loop .place) (t .before .before .before .pre .3) (t .loop-test .taken))
-
-from-code-requires : tie.Need-from-code-requires Inv-loop μ-loop
-from-code-requires c κs = search needs
+    omega (arith, place-below (t .before .before .before .args .z .now) (t .before .loop .place) (t .before .before .before .pre .3) (t .loop-test .taken))
 
 mul-nat : tie.Need-mul-nat Inv-loop μ-loop
 mul-nat c =
     let t = c .before .before .before .before .before in
-    omega (arith, below (t .before .before .before .args .z .now) (t .before .loop .place) (t .before .before .before .pre .3) (t .loop-test .taken))
+    omega (arith, place-below (t .before .before .before .args .z .now) (t .before .loop .place) (t .before .before .before .pre .3) (t .loop-test .taken))
 
 array-set-from-nat : tie.Need-array-set-from-nat Inv-loop μ-loop
 array-set-from-nat c =
     let t = c .before .before .before .before .before in
-    below (t .before .before .before .args .z .now) (t .before .loop .place) (t .before .before .before .pre .3) (t .loop-test .taken)
+    place-below (t .before .before .before .args .z .now) (t .before .loop .place) (t .before .before .before .pre .3) (t .loop-test .taken)
 
 add-place : tie.Need-add-place Inv-loop μ-loop
 add-place c = omega (arith, c .before .before .before .before .before .loop-test .taken)
@@ -108,7 +100,7 @@ read-block-spec =
     next-symbol-requires
     element-copy-out-j
     cast-j
-    from-code-requires
+    (λ c κs. search needs)
     mul-nat
     array-set-from-nat
     add-place

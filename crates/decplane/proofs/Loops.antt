@@ -6,6 +6,7 @@ use Prim.Native.Nat.{ℕ, zero, suc, _+_, _-_, _*_, _/_, _^_, _≤_, _<_}
 use native.Mathlib.Nat.{add-mul, one-mul, mul-le-mul-right}
 use native.Mathlib.Omega.{arith}
 use lib.ListN.{length, getD, take, drop}
+use Rattle.ask.specs.Limits.{strideMax}
 use Rattle.bits.specs.Bits.{bytesFor}
 use Rattle.tables.specs.Zigzag.{zigzag}
 use Rattle.paint.specs.Paint.{storeBlock, sampleInBlock}
@@ -13,14 +14,14 @@ use Rattle.calls.specs.Arguments.{Settings, Plane, plane, PerStream, Buffers}
 use Rattle.calls.specs.ReadPlane.{BlockRead}
 use Rattle.calls.specs.Grid.{columnsOf, blocksOf}
 use Rattle.slice.specs.Plane.{blockSamples}
-use Rattle.planes.proofs.Laws.{corner-fits}
+use Rattle.planes.proofs.Laws.{corner-fits, part-is, part-long}
 use Rattle.blockread.specs.On.{Begun, readOn, goodPlane, blockOf, Ready, NextBlock}
 use Rattle.blockread.specs.declared.Stand.{Stand}
 use Rattle.blockread.specs.declared.BlockGot.{BlockGot}
 use Rattle.slice.specs.FirstBlocks.{sampleIn, paintedRows}
 use Rattle.slice.proofs.Painting.{painted-none, painted-length, painted-next, painted-all}
-use Rattle.decplane.specs.store.Storing.{planeIn, blocksGot, PlaneGood, PlaneStored}
-use Rattle.decplane.proofs.store.Going.{Going, going-start, good-next, going-next, block-here, going-over}
+use Rattle.decplane.specs.Storing.{planeIn, blocksGot, PlaneGood, PlaneStored}
+use Rattle.decplane.proofs.Going.{Going, going-start, good-next, going-next, block-here, going-over}
 
 -- the blocks that the streams hold for a plane
 abbrev got : Settings → Plane → Buffers → PerStream → List BlockRead
@@ -89,12 +90,22 @@ module _ {σ : Settings} {p : Plane} {b : Buffers} {at : PerStream} where
       → Behind σ p b at j k s rows → c + (7 * p .stride + 8) ≤ length rows
   inside j k o hj hk e i = omega (arith, corner-fits j k (p .stride) hj hk, o .plane .rows-long, as-long i)
 
-  -- one block
-  pub next : (j k : ℕ) {c : ℕ} {s : Stand} (g : BlockGot) (rows rows' : List ℕ) → PlaneGood σ p b at → j < 2 → k < columnsOf (p .stride)
+  -- the corner is a small number
+  pub corner-small : (j k : ℕ) {c : ℕ} → PlaneGood σ p b at → j < 2 → k < columnsOf (p .stride) → c ≡ 8 * j * p .stride + 8 * k → c < 16 * strideMax
+  corner-small j k o hj hk e = omega (arith, corner-fits j k (p .stride) hj hk, o .plane .stride-le)
+
+  -- what painting it asks of the rows from its corner on
+  pub room : (j k : ℕ) {s : Stand} {rows : List ℕ} {c : ℕ} → PlaneGood σ p b at → j < 2 → k < columnsOf (p .stride) → c ≡ 8 * j * p .stride + 8 * k
+      → Behind σ p b at j k s rows → (8 ≤ p .stride) × (p .stride ≤ strideMax) × (7 * p .stride + 8 ≤ length (take (length rows - c) (drop c rows)))
+  room j k {s} {rows} {c} o hj hk e i =
+      (o .plane .wide, o .plane .stride-le, rw (part-is rows c) (part-long rows c (p .stride) (inside j k o hj hk e i)))
+
+  -- one block, y in the place of the rows from its corner on
+  pub next : (j k : ℕ) {c : ℕ} {s : Stand} (g : BlockGot) (rows : List ℕ) {y : List ℕ} → PlaneGood σ p b at → j < 2 → k < columnsOf (p .stride)
       → NextBlock (σ .shift) (b .dcBytes) (b .acBytes) s g → c ≡ 8 * j * p .stride + 8 * k
-      → rows' ≡ take c rows ++ (storeBlock (p .stride) (sampleInBlock (blockSamples (σ .depth) (σ .preset) (p .place) (blockOf g))) (take (length rows - c) (drop c rows)) ++ drop (length rows - c) (drop c rows))
-      → Behind σ p b at j k s rows → Behind σ p b at j (k + 1) (g .next) rows'
-  next j k {c} {s} g rows rows' o hj hk x ec ey i =
+      → y ≡ storeBlock (p .stride) (sampleInBlock (blockSamples (σ .depth) (σ .preset) (p .place) (blockOf g))) (take (length rows - c) (drop c rows))
+      → Behind σ p b at j k s rows → Behind σ p b at j (k + 1) (g .next) (take c rows ++ (y ++ drop (length rows - c) (drop c rows)))
+  next j k {c} {s} g rows {y} o hj hk x ec ey i =
       let n = blocksOf (p .stride) in
       let m = inFront (columnsOf (p .stride)) j k in
       let h : m < n = below (columnsOf (p .stride)) j k hj hk in
@@ -103,10 +114,9 @@ module _ {σ : Settings} {p : Plane} {b : Buffers} {at : PerStream} where
       (record {
         going = going-next (σ .shift) n (b .dcBytes) (b .acBytes) (at .dc) (at .ac) m s g (o .good) h (i .going) x;
         painted =
-            ey
-            ∙ painted-next (p .stride) j k (o .plane .eights) hk hj (sampleIn (σ .depth) (σ .preset) (p .place) (got σ p b at)) (sampleInBlock (blockSamples (σ .depth) (σ .preset) (p .place) (blockOf g)))
+            painted-next (p .stride) j k (o .plane .eights) hk hj (sampleIn (σ .depth) (σ .preset) (p .place) (got σ p b at)) (sampleInBlock (blockSamples (σ .depth) (σ .preset) (p .place) (blockOf g)))
             (λ q l. ap (λ (z : List ℕ). getD z q 0) (block-here (σ .shift) n (b .dcBytes) (b .acBytes) (at .dc) (at .ac) (blockSamples (σ .depth) (σ .preset) (p .place)) m s g (o .good) h (i .going) x))
-            m c (p .samples) rows (storeBlock (p .stride) (sampleInBlock (blockSamples (σ .depth) (σ .preset) (p .place) (blockOf g))) (take (length rows - c) (drop c rows))) refl ec (omega (arith, corner-fits j k (p .stride) hj hk, o .plane .rows-long)) (i .painted) refl;
+            m c (p .samples) rows y refl ec (omega (arith, corner-fits j k (p .stride) hj hk, o .plane .rows-long)) (i .painted) ey;
       })
 
   -- a block row
