@@ -1,4 +1,5 @@
--- The questions of the calls on planes and slices at their limits, and their order.
+-- The questions of the calls on planes and slices at their limits, and their order. `no 4 3 7688`: with the number at place 3, counted from 0,
+-- set to 7,688 the call is refused with 4.
 use mathlib.Core.Path.{_≡_, refl}
 use mathlib.Core.Bool.{true}
 use mathlib.Core.List.{List, [], _∷_, _++_}
@@ -7,12 +8,12 @@ use lib.IntN.{ℤ, pos}
 use lib.ListN.{getD, replicate}
 use Rattle.scalar.specs.Scalar.{wrap16, addOf, sraOf}
 use Rattle.ask.specs.Ask.{Question, firstNo}
-use Rattle.ask.proofs.AtLimits.{Broken, no, Limits, limits, holds}
+use Rattle.ask.proofs.AtLimits.{Broken, no, limits, holds}
 use Rattle.calls.specs.Arguments.{eight, Settings, Rows, Plane, Call, onePlane, oneSlice, PerStream}
 use Rattle.calls.specs.Questions.{readingQuestions, previewQuestions, reportQuestions, planeSizeQuestions, sliceSizeQuestions}
 use Rattle.calls.specs.Previews.{previewByte, planeSize, sliceSize, firstOfFour}
 
-abbrev pub blank : ℕ → List ℕ
+abbrev blank : ℕ → List ℕ
 blank n = replicate n 0
 
 abbrev both : ℕ → ℕ → PerStream
@@ -60,6 +61,7 @@ reading-plane : holds (onPlane readingQuestions)
     (limits (24 ∷ 15 ∷ 3 ∷ 8 ∷ 128 ∷ 245760 ∷ 430080 ∷ 16777215 ∷ 16777215 ∷ [])
     (planeBroken ++ (no 7 5 245761 ∷ no 7 6 430081 ∷ no 7 7 16777216 ∷ no 7 8 16777216 ∷ []))
     ∷ limits (0 ∷ 0 ∷ 0 ∷ 8 ∷ 129 ∷ 0 ∷ 0 ∷ 0 ∷ 0 ∷ []) []
+    ∷ limits (0 ∷ 0 ∷ 0 ∷ 16 ∷ 256 ∷ 0 ∷ 0 ∷ 0 ∷ 0 ∷ []) (no 5 4 255 ∷ [])
     ∷ [])
     ≡ true
 unfolding onPlane firstNo readingQuestions

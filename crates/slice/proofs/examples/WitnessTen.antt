@@ -29,7 +29,7 @@ use Rattle.slice.proofs.Runs.{encodeAll, decodeAll, encode-runs, decode
 use Rattle.slice.proofs.Demand3.{of-definitions}
 use Rattle.slice.specs.Room.{codingQuestions}
 
-σ : Settings
+pub σ : Settings
 σ = record { depth = ten; preset = 2; shift = 0 }
 
 -- refused with 1
@@ -49,7 +49,7 @@ bright = replicate 128 65472
 edge : List ℕ
 edge = replicate 32 0 ++ replicate 96 65472
 
-calls : List Call
+pub calls : List Call
 calls =
     onePlane σ (plane 0 edge)
     ∷ onePlane other (plane 1 bright)
@@ -57,7 +57,7 @@ calls =
     ∷ oneSlice σ 2 (rows bright) (rows edge) (rows []) (rows [])
     ∷ []
 
-readings : List Call
+pub readings : List Call
 readings =
     oneSlice σ 2 (rows bright) (rows bright) (rows []) (rows [])
     ∷ oneSlice other 2 (rows bright) (rows bright) (rows []) (rows [])
@@ -65,34 +65,37 @@ readings =
     ∷ onePlane σ (plane 1 bright)
     ∷ []
 
-buffers : Buffers
+pub buffers : Buffers
 buffers = record { dcBytes = replicate 60 9; acBytes = replicate 1300 9 }
 
-starts : PerStream
+pub starts : PerStream
 starts = record { dc = 2; ac = 3 }
 
-appended : Buffers
+pub appended : Buffers
 appended = record { dcBytes = 85 ∷ 0 ∷ 7 ∷ []; acBytes = 1 ∷ 2 ∷ 3 ∷ 4 ∷ [] }
 
-one-setting : OneSetting σ (fed buffers starts) emptyBook calls
+pub one-setting : OneSetting σ (fed buffers starts) emptyBook calls
 unfolding σ other rows plane bright edge calls buffers starts OneSetting bookNumber firstNo codingQuestions ownStreams dcStream acStream padToByte toBytes num stepCodes stepCode stepsFrom codedDc symbolCodes codeOf valueCode runCode spread bitLength halvings bitsOf coefficientsAt blockCoefficients lanesAt tabFrom fcol._▸_ fcol.forwardColumnOf fcol.butterflyOf fcol.forwardEvenOf fcol.forwardOddOf frow.ftab1 frow.ftab2 frow.ftab3 frow.ftab4 frow.tableAt frow.sideAt frow.dotOf frow.coefficientAt frow.forwardRowsOf fdct.levelShiftOf fdct.forwardColumnsOf fdct.transformOf fdct.forwardOf sat16 wrap16 wrap32 addsOf subsOf addOf mulhiOf sraOf sllOf orOf quantiseOf roundedDivision withSign divisor baseMatrix qualityFactors scanOf zigzag
 one-setting = (refl, (tt, (refl, (refl, tt))))
 
 -- the streams that are read: what was before the starts, the four planes' own streams, what is appended
-streams : Buffers
+pub streams : Buffers
 streams =
     record {
       dcBytes = 9 ∷ 9 ∷ 64 ∷ 7 ∷ 255 ∷ 0 ∷ 31 ∷ 251 ∷ 128 ∷ 0 ∷ 63 ∷ 238 ∷ 0 ∷ 63 ∷ 248 ∷ 1 ∷ 255 ∷ 192 ∷ 85 ∷ 0 ∷ 7 ∷ [];
       acBytes = 9 ∷ 9 ∷ 9 ∷ 160 ∷ 4 ∷ 213 ∷ 48 ∷ 9 ∷ 248 ∷ 160 ∷ 45 ∷ 71 ∷ 1 ∷ 38 ∷ 5 ∷ 192 ∷ 128 ∷ 128 ∷ 128 ∷ 128 ∷ 160 ∷ 4 ∷ 213 ∷ 48 ∷ 9 ∷ 248 ∷ 160 ∷ 45 ∷ 71 ∷ 1 ∷ 38 ∷ 5 ∷ 192 ∷ 1 ∷ 2 ∷ 3 ∷ 4 ∷ [];
     }
 
-joined : readFrom (encodeAll calls buffers starts) appended ≡ streams
+pub joined : readFrom (encodeAll calls buffers starts) appended ≡ streams
 unfolding σ other rows plane bright edge calls buffers starts appended streams encodeAll encode lay firstNo codingQuestions ownStreams dcStream acStream padToByte toBytes num stepCodes stepCode stepsFrom codedDc symbolCodes codeOf valueCode runCode spread bitLength halvings bitsOf coefficientsAt blockCoefficients lanesAt tabFrom fcol._▸_ fcol.forwardColumnOf fcol.butterflyOf fcol.forwardEvenOf fcol.forwardOddOf frow.ftab1 frow.ftab2 frow.ftab3 frow.ftab4 frow.tableAt frow.sideAt frow.dotOf frow.coefficientAt frow.forwardRowsOf fdct.levelShiftOf fdct.forwardColumnsOf fdct.transformOf fdct.forwardOf sat16 wrap16 wrap32 addsOf subsOf addOf mulhiOf sraOf sllOf orOf quantiseOf roundedDivision withSign divisor baseMatrix qualityFactors scanOf zigzag
 joined = refl
 
 follows : Follows σ (planes calls buffers starts) readings streams starts (decodeAll readings streams starts .answers)
 unfolding σ other rows plane bright edge calls readings buffers starts streams Follows planesCoded decodeAll decode bookNumber firstNo codingQuestions ownStreams dcStream acStream padToByte toBytes num stepCodes stepCode stepsFrom codedDc symbolCodes codeOf valueCode runCode spread bitLength halvings bitsOf coefficientsAt blockCoefficients lanesAt tabFrom fcol._▸_ fcol.forwardColumnOf fcol.butterflyOf fcol.forwardEvenOf fcol.forwardOddOf frow.ftab1 frow.ftab2 frow.ftab3 frow.ftab4 frow.tableAt frow.sideAt frow.dotOf frow.coefficientAt frow.forwardRowsOf fdct.levelShiftOf fdct.forwardColumnsOf fdct.transformOf fdct.forwardOf sat16 wrap16 wrap32 addsOf subsOf addOf mulhiOf sraOf sllOf orOf quantiseOf roundedDivision withSign divisor baseMatrix qualityFactors scanOf zigzag readingQuestions signedOf readPlanes readPlane readBlocks readPlaces readSymbol readTail tailAt zeros bitAt readSteps readDc predicted
 follows = (refl, refl, (refl, refl, (refl, refl, tt)))
+
+pub follows-joined : let b = readFrom (encodeAll calls buffers starts) appended in Follows σ (planes calls buffers starts) readings b starts (decodeAll readings b starts .answers)
+follows-joined = subst (λ (b : Buffers). Follows σ (planes calls buffers starts) readings b starts (decodeAll readings b starts .answers)) (sym joined) follows
 
 -- so the claim says something of these four planes
 shown : ReadingHalf σ (planes calls buffers starts) readings streams starts (decodeAll readings streams starts)
@@ -101,7 +104,7 @@ shown =
     (of-definitions .reading calls buffers starts (encodeAll calls buffers starts) (encode-runs calls buffers starts) σ one-setting appended readings
     (decodeAll readings (readFrom (encodeAll calls buffers starts) appended) starts)
     (decode-runs readings (readFrom (encodeAll calls buffers starts) appended) starts)
-    (subst (λ (b : Buffers). Follows σ (planes calls buffers starts) readings b starts (decodeAll readings b starts .answers)) (sym joined) follows))
+    follows-joined)
 
 four : length (planes calls buffers starts) ≡ 4
 unfolding σ other rows plane bright edge calls buffers starts planesCoded bookNumber firstNo codingQuestions ownStreams dcStream acStream padToByte toBytes num stepCodes stepCode stepsFrom codedDc symbolCodes codeOf valueCode runCode spread bitLength halvings bitsOf coefficientsAt blockCoefficients lanesAt tabFrom fcol._▸_ fcol.forwardColumnOf fcol.butterflyOf fcol.forwardEvenOf fcol.forwardOddOf frow.ftab1 frow.ftab2 frow.ftab3 frow.ftab4 frow.tableAt frow.sideAt frow.dotOf frow.coefficientAt frow.forwardRowsOf fdct.levelShiftOf fdct.forwardColumnsOf fdct.transformOf fdct.forwardOf sat16 wrap16 wrap32 addsOf subsOf addOf mulhiOf sraOf sllOf orOf quantiseOf roundedDivision withSign divisor baseMatrix qualityFactors scanOf zigzag
