@@ -8,6 +8,7 @@ mod frames;
 mod lanes;
 mod planes;
 mod reads;
+mod shown;
 mod tables;
 
 use replay::Record;
@@ -20,6 +21,7 @@ enum Part {
     Lanes,
     Planes,
     Reads,
+    Shown,
     Tables,
 }
 
@@ -33,6 +35,7 @@ fn length_of(p: Part) -> usize {
         Part::Lanes => lanes::LENGTH,
         Part::Planes => planes::LENGTH,
         Part::Reads => reads::LENGTH,
+        Part::Shown => shown::LENGTH,
         Part::Tables => tables::LENGTH,
     }
 }
@@ -47,6 +50,7 @@ fn holds(p: Part, b: &Record) -> bool {
         Part::Lanes => lanes::holds(b),
         Part::Planes => planes::holds(b),
         Part::Reads => reads::holds(b),
+        Part::Shown => shown::holds(b),
         Part::Tables => tables::holds(b),
     }
 }
@@ -97,6 +101,7 @@ fn calls() {
     replayed(Part::Frames, b"frames");
     replayed(Part::Planes, b"planes");
     replayed(Part::Reads, b"reads");
+    replayed(Part::Shown, b"shown");
 }
 
 fn main() {

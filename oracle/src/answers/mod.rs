@@ -9,6 +9,7 @@ mod lanes;
 mod planes;
 mod reads;
 mod record;
+mod shown;
 mod streams;
 mod tables;
 
@@ -23,7 +24,7 @@ const SEED: u64 = 1;
 type List = (&'static str, fn(&mut Rng) -> (Vec<u8>, usize));
 
 /// In the program's order.
-const LISTS: [List; 8] = [
+const LISTS: [List; 9] = [
     ("bits", bits::list),
     ("dct", dct::list),
     ("lanes", lanes::list),
@@ -32,6 +33,7 @@ const LISTS: [List; 8] = [
     ("frames", frames::list),
     ("planes", planes::list),
     ("reads", reads::list),
+    ("shown", shown::list),
 ];
 
 /// Writes each list to crates/replays/data, and crates/replays/stdout.
