@@ -128,16 +128,20 @@ void vmx_quality_preset(uint8_t quality, uint8_t *kept, size_t *preset);
 uint32_t vmx_layout(size_t width, size_t height, size_t *aligned_height, size_t *slices, size_t *luma, size_t *chroma,
                     size_t *max_dc_len, size_t *max_ac_len);
 
-/* 1 if a frame of this height is interlaced when its header says so (480, 576, 1080), else 0. */
-uint32_t vmx_interlace_capable(size_t height);
+/* Whether a frame of this size is interlaced when its header says so: *capable is 1 (heights 480, 576, 1080) or 0.
+ * Number: 9. */
+uint32_t vmx_interlace_capable(size_t width, size_t height, uint32_t *capable);
 
-/* The row of the image that a coded row holds: 1, and *row is set; 0 for a row of padding, and *row stays. interlaced is 0
- * or any other number: then the upper half of the coded rows holds the even rows, the lower half the odd ones. */
-uint32_t vmx_image_row(size_t height, size_t r, uint32_t interlaced, size_t *row);
+/* The row of the image that coded row r holds: *there is 1 and *row is set; *there is 0 for a row of padding, and *row
+ * stays. interlaced is 0 or any other number: then the upper half of the coded rows holds the even rows, the lower half
+ * the odd ones.
+ * Number: 9. */
+uint32_t vmx_image_row(size_t width, size_t height, size_t r, uint32_t interlaced, uint32_t *there, size_t *row);
 
-/* The size of the 1/8 preview; interlaced is 0 or any other number. */
-size_t vmx_preview_width(size_t width);
-size_t vmx_preview_height(size_t height, uint32_t interlaced);
+/* The size of the 1/8 preview; interlaced is 0 or any other number.
+ * Number: 9. */
+uint32_t vmx_preview_size(size_t width, size_t height, uint32_t interlaced, size_t *preview_width,
+                          size_t *preview_height);
 
 /* Puts all questions about a frame and says what its header holds: interlaced 1 or 0, quality and DC shift as stored,
  * the header's length in bytes, ac 1 if AC streams follow the DC streams, else 0. Bytes after the last stream are
