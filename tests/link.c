@@ -107,8 +107,9 @@ static void slices(void) {
     }
     check(vmx_slice_size(2, 8, 8, 0, 0, &dc_len, &ac_len) == VMX_OK && dc_len == 16 && ac_len == 788, "size of two planes");
     check(vmx_plane_size(8, &dc_len, &ac_len) == VMX_OK && dc_len == 8 && ac_len == 394, "size of a plane");
-    check(vmx_plane_size(12, &dc_len, &ac_len) == VMX_NO_STRIDE && dc_len == 0 && ac_len == 0, "no size");
-    check(vmx_slice_size(5, 8, 8, 8, 8, &dc_len, &ac_len) == VMX_NO_PLANE, "no slice of five planes");
+    check(vmx_plane_size(12, &dc_len, &ac_len) == VMX_NO_STRIDE && dc_len == 8 && ac_len == 394, "no size");
+    check(vmx_slice_size(5, 8, 8, 8, 8, &dc_len, &ac_len) == VMX_NO_PLANE && dc_len == 8 && ac_len == 394,
+          "no slice of five planes");
 
     check(vmx_encode_slice8(p0, 128, 8, p1, 128, 8, none, 0, 0, none, 0, 0, 5, 0, 0, dc, 16, &d, ac, 788, &a) == VMX_NO_PLANE,
           "five planes");
@@ -213,6 +214,8 @@ static void frame(void) {
     check(vmx_streams(WIDTH, HEIGHT, out, at - 1, views, VMX_VIEWS, &interlaced, &quality, &shift, &header_len, &there) ==
               VMX_NO_BYTES,
           "a byte short");
+    check(vmx_streams(17, HEIGHT, out, at, views, 0, &interlaced, &quality, &shift, &header_len, &there) == VMX_NO_SIZE,
+          "9 before 5");
     check(views[0] == 99, "kept on refusal");
     check(vmx_streams(WIDTH, HEIGHT, out, at, views, VMX_VIEWS, &interlaced, &quality, &shift, &header_len, &there) == VMX_OK,
           "all streams");
@@ -232,8 +235,9 @@ static void shown(void) {
     check(from_new == 1 && offset == 256 && len == 256, "out of the new picture");
     check(vmx_shown_rows(512, 512, 16, 1, VMX_NO_CODE, &from_new, &offset, &len) == VMX_OK, "shown");
     check(from_new == 0 && offset == 256 && len == 256, "out of the held picture");
+    from_new = 7;
     check(vmx_shown_rows(512, 511, 16, 1, VMX_OK, &from_new, &offset, &len) == VMX_NO_ROWS, "held too short");
-    check(from_new == 0 && offset == 0 && len == 0, "an empty part");
+    check(from_new == 7 && offset == 0 && len == 0, "an empty part, of no picture");
     check(vmx_shown_time(20, 10, VMX_OK) == 20 && vmx_shown_time(20, 10, VMX_NO_CODE) == 10, "time");
 }
 

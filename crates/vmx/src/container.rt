@@ -264,11 +264,10 @@ pub extern "C" fn vmx_shown_rows(
     len: &mut usize,
 ) -> u32
     ensures { λ r. ⌜ handed r (shownPlaces (now («from_new» .exit)) (now (offset .exit)) (now (len .exit)))
-        ≡ handedBy (shownAt stride slice verdict new held) shownParts nothingShown ⌝ }
+        ≡ handedBy (shownAt stride slice verdict new held) shownParts (nothingShown (now («from_new» .entry))) ⌝ }
 {
     let x = shown::shown_number(new, held, stride, slice);
     if 0 < x {
-        *from_new = 0;
         *offset = 0;
         *len = 0;
         return x;

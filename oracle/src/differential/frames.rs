@@ -141,15 +141,15 @@ fn bad_size(run: &mut Run, kinds: &Kinds, width: usize, height: usize) {
     table(run, kinds, (width, height), &frame, room, &Err(number(e)));
 }
 
-/// All streams' places in a table of so many numbers: question 5 comes before all others, a refused call leaves the
-/// table as it was, and so do all numbers after the places.
+/// All streams' places in a table of so many numbers: question 5 comes after 9 and before all others, a refused call
+/// leaves the table as it was, and so do all numbers after the places.
 fn table(run: &mut Run, kinds: &Kinds, size: (usize, usize), frame: &[u8], room: usize, rust: &Result<Container, u32>) {
     let (width, height) = size;
     let fill = run.rng.next() as u32;
     let mut wanted: Vec<u32> = (0..room as u32).map(|i| fill ^ i).collect();
     let mut found = wanted.clone();
-    let slices = height / 16 + (height % 16 > 0) as usize;
-    let number = if room / 4 < slices { Err(NO_ROWS) } else { rust.as_ref().map(header).map_err(|x| *x) };
+    let slices = Layout::new(width, height).map_or(0, |l| l.slices());
+    let number = if room < 4 * slices { Err(NO_ROWS) } else { rust.as_ref().map(header).map_err(|x| *x) };
     if let (Ok(_), Ok(c)) = (&number, rust) {
         let none = vec![(0, 0); slices];
         let ac = if c.ac.is_empty() { &none } else { &c.ac };

@@ -15,7 +15,7 @@ pub fn rows<T: Clone>(new: &[T], held: &[T], stride: usize, slice: usize, verdic
     let (n, m) = (new.len(), held.len());
     let number = vmx_shown_rows(n, m, stride, slice, verdict, &mut from_new, &mut offset, &mut len);
     if number > 0 {
-        assert_eq!((from_new, offset, len), (0, 0, 0), "a refused view is an empty part");
+        assert_eq!((from_new, offset, len), (7, 0, 0), "a refused view is an empty part, and no picture is named");
         return Err(number);
     }
     let from = if from_new == 1 { new } else { held };
