@@ -22,7 +22,8 @@ fn table_ok(height: usize, room: usize) -> bool
     requires { ⌜ height ≤ heightMax ⌝ }
     ensures { λ r. ⌜ r ≡ leb (4 * sliceCount height) room ⌝ }
 {
-    4 * layout::slice_count(height) <= room
+    let n = 4 * layout::slice_count(height);
+    n <= room
 }
 
 // The first "no" among question 9, the table's question and those about the header, 0 where there is none.

@@ -8,11 +8,11 @@ use Rattle.views.proofs.both.Laws.{few}
 use Rattle.views.proofs.table_ok.Statement.{statement}
 use Rattle.views.proofs.table_ok.Tie as tie
 
-mul-t3 : tie.Need-mul-t3
-mul-t3 c = omega (arith, few (c .before .args .height) (c .slice-count .ensures) (c .before .pre))
+mul-n : tie.Need-mul-n
+mul-n c = omega (arith, few (c .before .args .height) (c .slice-count .ensures) (c .before .pre))
 
 returns : tie.Need-returns
 returns c = ap (λ (n : ℕ). leb (4 * n) (c .before .args .room)) (c .slice-count .ensures)
 
 pub table-ok-spec : {M : Type 1} → statement M
-table-ok-spec = tie.close (tie.spec (λ c κs. search needs) mul-t3 returns)
+table-ok-spec = tie.close (tie.spec (λ c κs. search needs) mul-n returns)

@@ -21,17 +21,17 @@ rest s =
     let a = s .args in
     tableQuestion (a .height) (a .room) ∷ headerQuestions (a .width) (a .height) (a .frame .now)
 
-size-yes : (c : tie.Then1) → sizeOk (c .before .before .args .width) (c .before .before .args .height) ≡ true
+size-yes : (c : tie.Then1) → sizeOk (c .before .before .before .args .width) (c .before .before .before .args .height) ≡ true
 size-yes c = sym (c .before .size-ok .ensures) ∙ c .if1 .taken
 
 table-ok-requires : tie.Need-table-ok-requires
-table-ok-requires c κs = let a = c .before .before .args in sized (a .width) (a .height) (size-yes c) .high
+table-ok-requires c κs = let a = c .before .before .before .args in sized (a .width) (a .height) (size-yes c) .high
 
 returns : tie.Need-returns
 returns c =
     let header = c .before in
     let table = header .before in
-    let start = table .before .before .before in
+    let start = table .before .before .before .before in
     let a = start .args in
     put (leb (4 * sliceCount (a .height)) (a .room)) noRows (headerQuestions (a .width) (a .height) (a .frame .now))
     (c .or-else .ensures ∙ ap (λ (b : Bool). orElse b noRows (header .header-number .result)) (table .table-ok .ensures))
@@ -39,7 +39,7 @@ returns c =
     ∙ sym (yes noSize (rest start) (size-yes (table .before)))
 
 returns-2 : tie.Need-returns-2
-returns-2 c = sym (no noSize (rest (c .before .before)) (sym (c .before .size-ok .ensures) ∙ c .if1 .left))
+returns-2 c = sym (no noSize (rest (c .before .before .before)) (sym (c .before .size-ok .ensures) ∙ c .if1 .left))
 
 pub views-number-spec : {M : Type 1} → statement M
 views-number-spec =
