@@ -9,5 +9,6 @@ ghost use Rattle.idct.specs.Inverse.{inverseOf};
 pub fn idct_core(nat: [i16; 64], d: &[u16; 64]) -> [i16; 64]
     ensures { λ r. ⌜ r ≡ inverseOf false (pos 0) (dequantiseWith (dequantShift false) (now (d .entry)) nat) ⌝ }
 {
-    crate::inverse::idct_core(nat, d, false)
+    let b = quant::eight::dequant(nat, d);
+    idct::eight::inverse(b)
 }

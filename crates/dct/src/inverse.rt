@@ -13,20 +13,15 @@ ghost use Rattle.quant.specs.Quantise.{dequantShift, dequantiseWith};
 ghost use Rattle.idct.specs.Inverse.{inverseOf};
 ghost use Rattle.dct.specs.Decode.{numberSample};
 
-// How far the products of a depth are shifted right.
-fn dequant_shift(ten: bool) -> u32
-    ensures { λ r. ⌜ r ≡ dequantShift ten ⌝ }
-{
-    if ten { 2 } else { 4 }
-}
-
 // The numbers of a block of coefficients in natural order: dequantised by the divisors d and transformed, the level not added.
 pub fn idct_core(nat: [i16; 64], d: &[u16; 64], ten: bool) -> [i16; 64]
     ensures { λ r. ⌜ r ≡ inverseOf ten (pos 0) (dequantiseWith (dequantShift ten) (now (d .entry)) nat) ⌝ }
 {
-    let a = quant::dequant(nat, d, 0);
-    let n = dequant_shift(ten);
-    idct::inverse(a, n, ten)
+    if ten {
+        crate::ten::idct_core(nat, d)
+    } else {
+        crate::eight::idct_core(nat, d)
+    }
 }
 
 // The 8-bit samples of a block's numbers.
@@ -34,7 +29,7 @@ pub fn store8(rows: &mut [u8], stride: usize, v: [i16; 64], level: i16)
     requires { ⌜ (8 ≤ stride) × (stride ≤ strideMax) × (7 * stride + 8 ≤ length (now rows)) ⌝ }
     ensures { λ _. ⌜ now (rows .exit) ≡ storeBlock stride (numberSample false level v) (now (rows .entry)) ⌝ }
 {
-    let p = idct::bytes(v, level);
+    let p = idct::eight::samples(v, level);
     paint::store8(rows, stride, &p);
 }
 
@@ -43,7 +38,7 @@ pub fn store16(rows: &mut [u16], stride: usize, v: [i16; 64], level: i16)
     requires { ⌜ (8 ≤ stride) × (stride ≤ strideMax) × (7 * stride + 8 ≤ length (now rows)) ⌝ }
     ensures { λ _. ⌜ now (rows .exit) ≡ storeBlock stride (numberSample true level v) (now (rows .entry)) ⌝ }
 {
-    let p = idct::words(v, level);
+    let p = idct::ten::samples(v, level);
     paint::store16(rows, stride, &p);
 }
 
