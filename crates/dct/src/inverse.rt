@@ -1,28 +1,13 @@
-// A block of coefficients becomes 8 by 8 samples in the rows from its corner on: dequantising and the inverse transform (idct_core of
-// dct.rs), then the block writer of a depth. The divisors are those of tables::decode_numbers: a caller makes them once for a plane.
-// idct_core does both depths: where it has one caller, as in reading, the compiler makes it part of it and no block goes through memory.
+// A block of coefficients becomes 8 by 8 samples in the rows from its corner on: dequantising and the inverse transform of a depth
+// (dct::eight, dct::ten), then its block writer. The divisors are those of tables::decode_numbers: a caller makes them once for a plane.
 ghost use mathlib.Core.Path.{_≡_};
 ghost use mathlib.Core.Bool.{true, false};
 ghost use Prim.Native.Nat.{_+_, _*_, _≤_};
-ghost use lib.IntN.{pos};
 ghost use lib.ListN.{length};
 ghost use Rattle.ask.specs.Limits.{strideMax};
 ghost use Rattle.paint.specs.Paint.{storeBlock};
 ghost use Rattle.paint.specs.Samples.{flatSample};
-ghost use Rattle.quant.specs.Quantise.{dequantShift, dequantiseWith};
-ghost use Rattle.idct.specs.Inverse.{inverseOf};
 ghost use Rattle.dct.specs.Decode.{numberSample};
-
-// The numbers of a block of coefficients in natural order: dequantised by the divisors d and transformed, the level not added.
-pub fn idct_core(nat: [i16; 64], d: &[u16; 64], ten: bool) -> [i16; 64]
-    ensures { λ r. ⌜ r ≡ inverseOf ten (pos 0) (dequantiseWith (dequantShift ten) (now (d .entry)) nat) ⌝ }
-{
-    if ten {
-        crate::ten::idct_core(nat, d)
-    } else {
-        crate::eight::idct_core(nat, d)
-    }
-}
 
 // The 8-bit samples of a block's numbers.
 pub fn store8(rows: &mut [u8], stride: usize, v: [i16; 64], level: i16)

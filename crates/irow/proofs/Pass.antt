@@ -7,18 +7,16 @@ use Prim.Native.Nat.{ℕ, zero, suc, _+_, _-_, _*_, _/_, _%_, _<_, _≤_}
 use native.Mathlib.Omega.{arith}
 use lib.Dec.{ltb}
 use lib.IntN.{ℤ, pos, _+ℤ_, _-ℤ_, _*ℤ_, +ℤ-comm}
-use lib.ListN.{length}
 use borrow.Author.Tests.{ltb-true, ltb-false, lt-ltb, le-ltb}
 use Rattle.scalar.specs.Scalar.{wrap32, maddOf}
-use Rattle.scalar.specs.Tab.{tab}
-use Rattle.scalar.proofs.Fill.{length-tab, getD-tab, tab-ext}
+use Rattle.scalar.proofs.Fill.{getD-tab, tab-ext}
 use Rattle.scalar.proofs.InRows.{row-of, col-of}
 use Rattle.irow.specs.pairs.Pairs.{spreadPlace, inverseSpreadOf, inversePairsOf, spreadBy}
 use Rattle.irow.specs.sums.Sums.{inverseLaneOf, inverseHalfOf, sideOf, rowsFrom}
 use Rattle.irow.proofs.pairs.Orders.{spread-0, spread-4, spread-2, spread-6}
 use Rattle.irow.proofs.sums.Sums.{left-is, right-is, half-at}
 use Rattle.irow.specs.RowPass.{lane, rowTab, pairSum, evenSum, oddSum, roundedSum, pickZ, rowLane, inverseRowsOf}
-use Rattle.irow.specs.Stages.{pairedPlace, pairUpOf, groupOf, inverseTab, mirrorPlace, inverseMirrorOf, pairedRows}
+use Rattle.irow.specs.Stages.{pairedPlace, pairUpOf, groupOf, inverseTab, inverseMirrorOf, pairedRows}
 
 -- ---- the factors
 

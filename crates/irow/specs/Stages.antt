@@ -1,5 +1,5 @@
 -- The stages by which the code makes the row pass: loops over whole blocks, so that they run on vectors.
-use mathlib.Core.Bool.{Bool, true, false, cond}
+use mathlib.Core.Bool.{cond}
 use mathlib.Core.List.{List, [], _∷_}
 use Prim.Native.Nat.{ℕ, _+_, _-_, _*_, _/_, _%_}
 use lib.Dec.{ltb}

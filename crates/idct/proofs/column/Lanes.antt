@@ -1,7 +1,7 @@
 -- Lane k of the column pass on rows is column k: rows and numbers go through the same steps.
 use mathlib.Core.Path.{_≡_, _∙_, ap, refl}
 use mathlib.Core.List.{List}
-use Prim.Native.Nat.{ℕ, _+_, _*_, _<_}
+use Prim.Native.Nat.{ℕ, _<_}
 use lib.IntN.{ℤ, pos}
 use Rattle.scalar.specs.Scalar.{addsOf, subsOf, mulhiOf, orOf, sraOf}
 use Rattle.scalar.specs.Tab.{tab, lane}

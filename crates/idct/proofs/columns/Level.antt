@@ -1,5 +1,5 @@
 -- The level may be added after the columns: at level 0 their sums are as they were shifted.
-use mathlib.Core.Path.{_≡_, refl, sym, ap, _∙_}
+use mathlib.Core.Path.{_≡_, sym, ap, _∙_}
 use mathlib.Core.List.{List}
 use Prim.Native.Nat.{ℕ, zero, suc, _/_, _%_, _<_, _^_}
 use native.Mathlib.Omega.{arith}
@@ -7,12 +7,10 @@ use lib.IntN.{ℤ, pos, _+ℤ_, _-ℤ_, +ℤ-idr}
 use mir.Syntax.{w16}
 use mir.Val.{SFits}
 use Rattle.scalar.specs.Scalar.{sat16, addsOf, subsOf, sraOf}
-use Rattle.scalar.specs.Tab.{tab}
 use Rattle.scalar.proofs.cuts.Nearest.{sat-mid}
 use Rattle.scalar.proofs.Laws.{sat-fits, shr-fits}
 use Rattle.scalar.proofs.Fill.{getD-tab, tab-ext}
-use Rattle.irow.specs.RowPass.{lane}
-use Rattle.idct.specs.column.Steps.{Stage, inverseOddOf, inverseEvenOf, inverseSumOf, inverseDiffOf, inverseJoinOf, inverseColumnOf}
+use Rattle.idct.specs.column.Steps.{Stage, inverseSumOf, inverseDiffOf, inverseJoinOf, inverseColumnOf}
 use Rattle.idct.specs.columns.Columns.{eightAt, inverseColumnAt, inverseColumnsOf, levelAddedOf}
 
 pub add-zero : (z : ℤ) → SFits w16 z → addsOf z (pos 0) ≡ z

@@ -1,6 +1,6 @@
 -- The column pass on a whole block: each column by the listed order of steps.
 use mathlib.Core.List.{List, [], _∷_}
-use Prim.Native.Nat.{ℕ, _+_, _*_, _/_, _%_}
+use Prim.Native.Nat.{ℕ, _+_, _/_, _%_}
 use lib.IntN.{ℤ, pos}
 use lib.ListN.{getD}
 use Rattle.scalar.specs.Scalar.{addsOf}

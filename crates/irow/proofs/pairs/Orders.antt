@@ -9,7 +9,7 @@ use Rattle.scalar.specs.Tab.{tabFrom, tab, lane}
 use Rattle.scalar.proofs.Fill.{getD-tab}
 use Rattle.scalar.proofs.InRows.{row-of, col-of}
 use Rattle.shuffles.specs.Shuffles.{selector, pairPlace, mm-shuffle-epi32-16}
-use Rattle.lanes.specs.rows.Block.{rowOf, blockOf}
+use Rattle.lanes.specs.rows.Block.{rowOf}
 use Rattle.lanes.proofs.rows.Loops.{row-at, by-place}
 use Rattle.irow.specs.pairs.Pairs.{spreadPlace, inverseSpreadOf, spreadBy}
 

@@ -10,7 +10,7 @@ use lib.ListN.{length}
 use borrow.Author.Tests.{ltb-true, ltb-false}
 use Rattle.scalar.specs.Named.{_▸_}
 use Rattle.scalar.specs.Scalar.{sat16, sraOf, add32Of, sub32Of}
-use Rattle.scalar.specs.Tab.{tab, lane}
+use Rattle.scalar.specs.Tab.{lane}
 use Rattle.scalar.proofs.Fill.{length-tab, getD-tab}
 use Rattle.scalar.proofs.InRows.{row-of, col-of}
 use Rattle.lanes.specs.Lanes.{mm-set1-epi32, mm-add-epi32, mm-sub-epi32, mm-srai-epi32, mm-packs-epi32}

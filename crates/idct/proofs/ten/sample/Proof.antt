@@ -1,8 +1,7 @@
 use borrow.Author.Needs.{needs, sfits-of}
 use native.Mathlib.Omega.{arith}
 use mathlib.Core.Path.{_≡_, ap, _∙_}
-use Prim.Native.Nat.{ℕ, _*_}
-use lib.IntN.{ℤ, pos, natAbs}
+use lib.IntN.{ℤ, pos}
 use mir.Syntax.{w16}
 use mir.Facts.{toZ-ofZ}
 use Rattle.scalar.specs.Scalar.{minOf, maxOf}
