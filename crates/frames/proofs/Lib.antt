@@ -3,3 +3,4 @@ pub mod Back
 pub mod Read
 pub mod Views
 pub mod Built
+pub mod Calls
