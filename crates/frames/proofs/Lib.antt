@@ -4,3 +4,4 @@ pub mod Read
 pub mod Views
 pub mod Built
 pub mod Calls
+pub mod Orders
