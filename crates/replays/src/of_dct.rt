@@ -1,10 +1,12 @@
-// The Rust's transforms of a block. A record of 260 bytes (oracle/ANSWERS.md): the direction and the depth, the preset, the
-// level shift, 64 numbers, and the 64 numbers that the Rust answered.
+// The Rust's transforms of a block, its flat block and its mask of non-zero places. A record of 260 bytes (oracle/ANSWERS.md):
+// which of them, the preset, the level shift, 64 numbers, and the 64 numbers that the Rust answered.
 use probe::of_dct;
+use probe::of_shuffles::probe_shuffles_nonzero_mask;
 use replay::Record;
 use replay::lane;
 use replay::number;
 use replay::part;
+use replay::position;
 use replay::read_lanes;
 use replay::unsigned;
 use replay::wide;
@@ -48,11 +50,31 @@ fn inverse16(b: &Record) -> bool {
     replay::holds_stored16(&r, 0, 64, part(b, 132, 128))
 }
 
+// A block filled flat with its DC.
+fn flat(b: &Record) -> bool {
+    let mut r = [0u8; 64];
+    of_dct::probe_dct_flat(lane(b, 4), lane(b, 2), &mut r, 8);
+    has_samples8(b, &r)
+}
+
+fn long(x: usize) -> u64 {
+    x as u64
+}
+
+// The mask of the places that are not zero.
+fn mask(b: &Record) -> bool {
+    let mut x = [0i16; 64];
+    read_lanes(b, 4, &mut x);
+    probe_shuffles_nonzero_mask(&x) == long(position(b, 132))
+}
+
 pub fn holds(b: &Record) -> bool {
     match b[0] {
         0 => forward(b, false),
         1 => forward(b, true),
         2 => inverse8(b),
-        _ => inverse16(b),
+        3 => inverse16(b),
+        4 => flat(b),
+        _ => mask(b),
     }
 }

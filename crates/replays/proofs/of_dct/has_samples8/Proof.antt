@@ -1,7 +1,7 @@
 use Prim.Native.Nat.{_-_, _≤_}
 use borrow.Author.Needs.{needs}
-use Rattle.replays.proofs.dct.has_samples8.Statement.{statement}
-use Rattle.replays.proofs.dct.has_samples8.Tie as tie
+use Rattle.replays.proofs.of_dct.has_samples8.Statement.{statement}
+use Rattle.replays.proofs.of_dct.has_samples8.Tie as tie
 
 abbrev Inv-loop : tie.InvT-loop
 Inv-loop b samples k₀ k = k ≤ 64

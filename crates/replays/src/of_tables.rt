@@ -1,13 +1,15 @@
-// The Rust's quantiser numbers and scan. A record of 12 bytes (oracle/ANSWERS.md): the kind, a preset, a place, a byte
-// without meaning, and four numbers that the Rust answered.
+// The Rust's quantiser numbers, scan and presets of a quality. A record of 12 bytes (oracle/ANSWERS.md): the kind, a preset or a
+// quality, a place, a byte without meaning, and four numbers that the Rust answered.
 use ask::limits::PRESET_MAX;
 use probe::of_tables::probe_tables_decode;
 use probe::of_tables::probe_tables_encode;
 use probe::of_tables::probe_tables_zigzag;
 use replay::Record;
 use replay::number;
+use replay::size;
 use replay::unsigned;
 use replay::wide;
+use tables::quality::quality_preset;
 
 pub const LENGTH: usize = 12;
 
@@ -38,12 +40,17 @@ fn scan(b: &Record, place: usize) -> bool {
     unsigned(probe_tables_zigzag(place)) == number(b, 4)
 }
 
+// The quality in force, and its preset.
+fn quality(b: &Record) -> bool {
+    let p = quality_preset(b[1]);
+    unsigned(p.quality) == number(b, 4) && p.index == size(b, 6)
+}
+
 pub fn holds(b: &Record) -> bool {
-    let preset = wide(b[1]);
     let place = wide(b[2]);
-    if b[0] == 0 {
-        numbers(b, preset, place)
-    } else {
-        place < 64 && scan(b, place)
+    match b[0] {
+        0 => numbers(b, wide(b[1]), place),
+        1 => place < 64 && scan(b, place),
+        _ => quality(b),
     }
 }

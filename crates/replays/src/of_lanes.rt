@@ -4,6 +4,9 @@ use probe::of_lanes;
 use probe::of_shuffles;
 use replay::Record;
 use replay::byte32;
+use replay::lane;
+use replay::lane32;
+use replay::number;
 use replay::read_lanes;
 use replay::read_lanes32;
 
@@ -93,6 +96,58 @@ fn packed(b: &Record) -> bool {
     has_row(b, &r)
 }
 
+// One lane in all eight.
+fn splat(b: &Record) -> bool {
+    let mut r = [0i16; 8];
+    of_lanes::probe_lanes_splat(lane(b, 2), &mut r);
+    has_row(b, &r)
+}
+
+// One wide lane in all four.
+fn splat32(b: &Record) -> bool {
+    let mut r = [0i32; 4];
+    of_lanes::probe_lanes_splat32(lane32(b, 2), &mut r);
+    has_row32(b, &r)
+}
+
+// Eight numbers without a sign as lanes.
+fn load_u(b: &Record) -> bool {
+    let t = [
+        number(b, 2),
+        number(b, 4),
+        number(b, 6),
+        number(b, 8),
+        number(b, 10),
+        number(b, 12),
+        number(b, 14),
+        number(b, 16),
+    ];
+    let mut r = [0i16; 8];
+    of_lanes::probe_lanes_load_u(&t, &mut r);
+    has_row(b, &r)
+}
+
+// Eight lanes as bytes, the answer's first eight.
+fn packus8(b: &Record) -> bool {
+    let x = row(b, 2);
+    for k in 0..8 {
+        if of_lanes::probe_lanes_packus8(&x, k) != b[34 + k] {
+            return false;
+        }
+    }
+    true
+}
+
+// From one number or row to another kind.
+fn made(b: &Record) -> bool {
+    match b[0] {
+        40 => splat(b),
+        41 => splat32(b),
+        42 => load_u(b),
+        _ => packus8(b),
+    }
+}
+
 pub fn holds(b: &Record) -> bool {
     let op = b[0];
     if op < 13 {
@@ -107,5 +162,8 @@ pub fn holds(b: &Record) -> bool {
     if op == 30 {
         return widened(b);
     }
-    packed(b)
+    if op == 31 {
+        return packed(b);
+    }
+    made(b)
 }
