@@ -1,14 +1,14 @@
 -- The reading half of the loops over a plane's blocks, after the first m of them.
-use mathlib.Core.Path.{_≡_, refl, sym, ap, _∙_}
+use mathlib.Core.Path.{_≡_, sym, ap, _∙_}
 use mathlib.Core.Bool.{true}
 use mathlib.Core.List.{List, [], map}
-use Prim.Native.Nat.{ℕ, suc, _+_, _-_, _*_, _^_, _≤_, _<_}
+use Prim.Native.Nat.{ℕ, suc, _+_, _-_, _*_, _≤_, _<_}
 use native.Mathlib.Numerals.{add-one}
 use native.Mathlib.Omega.{arith}
 use lib.IntN.{pos}
 use lib.ListN.{getD}
 use Rattle.bits.specs.Bits.{bytesFor}
-use Rattle.calls.specs.ReadPlane.{BlockRead, PlaneRead, planeRead, readPlane}
+use Rattle.calls.specs.ReadPlane.{BlockRead, planeRead, readPlane}
 use Rattle.blockread.specs.On.{readOn, goodPlane, blockFirst, blockOf, Ready, NextBlock}
 use Rattle.blockread.specs.declared.Stand.{Stand}
 use Rattle.blockread.specs.declared.BlockGot.{BlockGot}

@@ -8,7 +8,6 @@ use lib.ListN.{length}
 use Rattle.paint.specs.Paint.{storeBlock, sampleInBlock}
 use Rattle.paint.specs.Samples.{flatSample}
 use Rattle.paint.proofs.Pixels.{store-ext, flat-block}
-use Rattle.tables.specs.Divisor.{divisorsOf}
 use Rattle.quant.specs.Quantise.{coefficient, scanOf, dequantShift, dequantiseWith, dequantiseOf}
 use Rattle.quant.proofs.Blocks.{scan-first, natural-scan, dequantise-with}
 use Rattle.idct.specs.Inverse.{inverseOf}

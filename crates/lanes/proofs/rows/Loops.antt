@@ -77,9 +77,34 @@ module _ (g : ℕ → List ℤ) where
           let p : i / 8 ≡ r = omega (arith, ltb-false i (8 * r) q) in
           put-same b r x i h (s .1 .0) p ∙ rw (e, p) refl
 
+  -- the same for what a call of `put` left
+  pub put-turn : (b : List ℤ) {b′ x : List ℤ} (r : ℕ) → r < 8 → RowsPut b r → b′ ≡ putOf b r x → x ≡ g r → RowsPut b′ (r + 1)
+  put-turn b r h s e f = rw e (put-next b r h s f)
+
   pub put-done : (b : List ℤ) (r : ℕ) → 8 ≤ r → RowsPut b r → b ≡ blockOf g
   unfolding blockOf
   put-done b r h s = filled-done 64 (inRows g) b (8 * r) (omega arith) s
+
+  -- two rows a turn, by a loop inside: its invariant, its start, a turn and its end
+  abbrev pub TwoRows : List ℤ → ℕ → ℕ → Type 0
+  TwoRows b p h = (h ≤ 2) × RowsPut b (2 * p + h)
+
+  moved : (b : List ℤ) (i j : ℕ) → j ≡ i → RowsPut b i → RowsPut b j
+  moved b i j e s = rw e s
+
+  pub two-begin : (b : List ℤ) (p : ℕ) → RowsPut b (2 * p) → TwoRows b p 0
+  two-begin b p s = (omega arith, moved b (2 * p) (2 * p + 0) (omega arith) s)
+
+  pub two-turn : (b : List ℤ) {b′ x : List ℤ} (p h : ℕ) → p < 4 → h < 2 → TwoRows b p h → b′ ≡ putOf b (2 * p + h) x → x ≡ g (2 * p + h) → TwoRows b′ p (h + 1)
+  two-turn b {b′} p h k l s e f = (omega arith, moved b′ (2 * p + h + 1) (2 * p + (h + 1)) (omega arith) (put-turn b (2 * p + h) (omega arith) (s .1) e f))
+
+  pub two-end : (b : List ℤ) (p h : ℕ) → 2 ≤ h → TwoRows b p h → RowsPut b (2 * (p + 1))
+  two-end b p h l s = moved b (2 * p + h) (2 * (p + 1)) (let a : h ≤ 2 = s .0 in omega arith) (s .1)
+
+  -- place i
+  pub block-at : (i : ℕ) → i < 64 → lane (blockOf g) i ≡ lane (g (i / 8)) (i % 8)
+  unfolding blockOf
+  block-at i h = getD-tab 64 (inRows g) i (pos 0) h
 
   -- the block by place: at each place f of it
   pub by-place : (f : ℕ → ℤ) → ((r k : ℕ) → r < 8 → k < 8 → lane (g r) k ≡ f (8 * r + k)) → blockOf g ≡ tab 64 f

@@ -1,5 +1,5 @@
 -- `write_block::ten::paint`.
-use borrow.Author.Needs.{needs, sfits-of}
+use borrow.Author.Needs.{needs}
 use mir.Facts.{toZ-ofZ}
 use Rattle.write_block.proofs.Joined.{inverse-10}
 use Rattle.write_block.proofs.ten.paint.Statement.{statement}
