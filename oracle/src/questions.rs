@@ -137,3 +137,17 @@ pub fn report(stride: usize, out: usize, ac: (usize, usize)) -> u32 {
     }
     0
 }
+
+/// Shown rows: 4, 5 (up to the slice's end in both pictures, which have so many samples), 14.
+pub fn shown(new: usize, held: usize, stride: usize, slice: usize) -> u32 {
+    let whole = |len: usize| slice.checked_add(1).and_then(|s| s.checked_mul(16 * stride)).is_some_and(|e| e <= len);
+    if strides(&[stride]) > 0 {
+        NO_STRIDE
+    } else if !whole(new) || !whole(held) {
+        NO_ROWS
+    } else if slice >= SLICES_MAX {
+        NO_TURN
+    } else {
+        0
+    }
+}

@@ -9,6 +9,7 @@ mod of_bits;
 mod of_dct;
 mod of_lanes;
 mod of_planes;
+mod of_shown;
 mod of_tables;
 mod reads;
 
@@ -24,6 +25,7 @@ enum Part {
     Limits,
     Planes,
     Reads,
+    Shown,
     Tables,
 }
 
@@ -39,6 +41,7 @@ fn length_of(p: Part) -> usize {
         Part::Limits => limits::LENGTH,
         Part::Planes => of_planes::LENGTH,
         Part::Reads => reads::LENGTH,
+        Part::Shown => of_shown::LENGTH,
         Part::Tables => of_tables::LENGTH,
     }
 }
@@ -55,6 +58,7 @@ fn holds(p: Part, b: &Record) -> bool {
         Part::Limits => limits::holds(b),
         Part::Planes => of_planes::holds(b),
         Part::Reads => reads::holds(b),
+        Part::Shown => of_shown::holds(b),
         Part::Tables => of_tables::holds(b),
     }
 }
@@ -107,6 +111,7 @@ fn calls() {
     replayed(Part::Limits, b"limits");
     replayed(Part::Planes, b"planes");
     replayed(Part::Reads, b"reads");
+    replayed(Part::Shown, b"shown");
 }
 
 fn main() {

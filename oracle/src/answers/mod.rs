@@ -11,6 +11,7 @@ mod limits;
 mod planes;
 mod reads;
 mod record;
+mod shown;
 mod starts;
 mod streams;
 mod tables;
@@ -26,7 +27,7 @@ const SEED: u64 = 1;
 type List = (&'static str, fn(&mut Rng) -> (Vec<u8>, usize));
 
 /// In the program's order.
-const LISTS: [List; 10] = [
+const LISTS: [List; 11] = [
     ("bits", bits::list),
     ("dct", dct::list),
     ("lanes", lanes::list),
@@ -37,6 +38,7 @@ const LISTS: [List; 10] = [
     ("limits", limits::list),
     ("planes", planes::list),
     ("reads", reads::list),
+    ("shown", shown::list),
 ];
 
 /// Writes each list to crates/replays/data, and crates/replays/stdout.

@@ -33,6 +33,7 @@ struct Kinds {
     read: Kind,
     refused: Kind,
     views: Kind,
+    parts: Kind,
     tables: Kind,
 }
 
@@ -46,6 +47,7 @@ impl Kinds {
             read: kind("read"),
             refused: kind("refused"),
             views: kind("places of streams"),
+            parts: kind("streams as parts of the frame"),
             tables: kind("tables of places"),
         }
     }
@@ -131,6 +133,7 @@ fn bad_size(run: &mut Run, kinds: &Kinds, width: usize, height: usize) {
     let text = || format!("width {width} height {height} frame {frame:02x?}");
     run.report.same(kinds.refused, &ours::layout::parse(width, height, &frame), &Err(number(e)), n, text);
     run.report.same(kinds.views, &ours::layout::view(width, height, &frame, false, 0), &Err(number(e)), n, text);
+    part(run, kinds, (width, height), &frame, (false, 0), Err(number(e)));
     let room = run.rng.pick(&[0, 4 * SLICES_MAX, 8]);
     table(run, kinds, (width, height), &frame, room, &Err(number(e)));
 }
@@ -160,6 +163,25 @@ fn table(run: &mut Run, kinds: &Kinds, size: (usize, usize), frame: &[u8], room:
     });
 }
 
+/// The stream that is handed back as a part of the frame: its bytes, none where it is refused, and the number.
+fn part(
+    run: &mut Run,
+    kinds: &Kinds,
+    (width, height): (usize, usize),
+    frame: &[u8],
+    (ac, slice): (bool, usize),
+    place: Result<(usize, usize), u32>,
+) {
+    let wanted = match place {
+        Ok((at, n)) => (frame[at..at + n].to_vec(), 0),
+        Err(number) => (vec![], number),
+    };
+    let found = ours::layout::part(width, height, frame, ac, slice);
+    run.report.same(kinds.parts, &found, &wanted, frame.len(), || {
+        format!("slice {slice} ac {ac} width {width} height {height} frame of {}", frame.len())
+    });
+}
+
 /// What a frame's header says, as numbers.
 fn header(c: &Container) -> [usize; 5] {
     [c.interlaced as usize, c.quality as usize, c.dc_shift as usize, c.header_len, !c.ac.is_empty() as usize]
@@ -181,7 +203,9 @@ fn judged(run: &mut Run, kinds: &Kinds, width: usize, height: usize, l: &Layout,
                 list.get(slice).copied().ok_or(NO_TURN)
             });
             let found = ours::layout::view(width, height, frame, ac, slice);
-            run.report.same(kinds.views, &found, &wanted, frame.len(), || format!("slice {slice} ac {ac} {}", text()));
+            let text = || format!("slice {slice} ac {ac} {}", text());
+            run.report.same(kinds.views, &found, &wanted, frame.len(), text);
+            part(run, kinds, (width, height), frame, (ac, slice), wanted);
         }
     }
     let room = match run.rng.below(8) {

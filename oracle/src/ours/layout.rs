@@ -1,4 +1,5 @@
-//! Frame geometry and reading a frame, through the library that programs link (include/vmx.h).
+//! Frame geometry and reading a frame, through the library that programs link (include/vmx.h); a stream as a part of the
+//! frame, by crates/probe/src/of_parts.rt.
 
 #[rustfmt::skip]
 unsafe extern "C" {
@@ -21,6 +22,10 @@ unsafe extern "C" {
     fn vmx_stream(
         width: usize, height: usize, frame: *const u8, n: usize, ac: u32, slice: usize, offset: &mut usize, len: &mut usize,
     ) -> u32;
+    fn probe_parts_stream(
+        width: usize, height: usize, frame: *const u8, n: usize, ac: bool, slice: usize, number: &mut u32, out: *mut u8,
+        room: usize,
+    ) -> usize;
 }
 
 /// Aligned height, slices, strides of planes 0 and 1, limits for DC and AC; or the refusal's number.
@@ -86,4 +91,15 @@ pub fn view(width: usize, height: usize, frame: &[u8], ac: bool, slice: usize) -
             Err(number)
         }
     }
+}
+
+/// A slice's stream, the part of the frame that is handed back: its bytes, and the number of the answer.
+pub fn part(width: usize, height: usize, frame: &[u8], ac: bool, slice: usize) -> (Vec<u8>, u32) {
+    let mut number = u32::MAX;
+    let mut out = vec![0; frame.len()];
+    let (p, n, o) = (frame.as_ptr(), frame.len(), out.as_mut_ptr());
+    // SAFETY: frame and output with their own lengths, which do not overlap.
+    let len = unsafe { probe_parts_stream(width, height, p, n, ac, slice, &mut number, o, n) };
+    out.truncate(len);
+    (out, number)
 }
