@@ -9,8 +9,8 @@ mod of_bits;
 mod of_dct;
 mod of_lanes;
 mod of_planes;
-mod of_shown;
 mod of_tables;
+mod pictures;
 mod reads;
 
 use replay::Record;
@@ -41,7 +41,7 @@ fn length_of(p: Part) -> usize {
         Part::Limits => limits::LENGTH,
         Part::Planes => of_planes::LENGTH,
         Part::Reads => reads::LENGTH,
-        Part::Shown => of_shown::LENGTH,
+        Part::Shown => pictures::LENGTH,
         Part::Tables => of_tables::LENGTH,
     }
 }
@@ -58,7 +58,7 @@ fn holds(p: Part, b: &Record) -> bool {
         Part::Limits => limits::holds(b),
         Part::Planes => of_planes::holds(b),
         Part::Reads => reads::holds(b),
-        Part::Shown => of_shown::holds(b),
+        Part::Shown => pictures::holds(b),
         Part::Tables => of_tables::holds(b),
     }
 }
