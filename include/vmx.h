@@ -163,21 +163,24 @@ uint32_t vmx_stream(size_t width, size_t height, const uint8_t *frame, size_t fr
 
 /* Writes a frame's header into out from *at on, sets *at to the byte after it, and sets the state in which the DC
  * stream of slice 0 has its turn. interlaced is 0 or any other number; a DC shift of 0 gives the short header (3 bytes,
- * else 5). The state is six numbers that the caller holds: slices, max_dc_len, max_ac_len (never changed afterwards),
- * ac_turn, next, at.
- * Number: 2, 6, 9. Refused: out and the six numbers stay as they were. */
+ * else 5). The state is three numbers that the caller holds: ac_turn, next, at.
+ * Number: 2, 6, 9. Refused: out and the three numbers stay as they were. */
 uint32_t vmx_frame_start(size_t width, size_t height, uint32_t interlaced, uint8_t quality, uint32_t dc_shift,
-                         uint8_t *out, size_t out_len, size_t *slices, size_t *max_dc_len, size_t *max_ac_len,
-                         uint32_t *ac_turn, size_t *next, size_t *at);
+                         uint8_t *out, size_t out_len, uint32_t *ac_turn, size_t *next, size_t *at);
 
 /* Puts the DC stream (ac 0) or the AC stream (ac any other number) of a slice, after its length, into out from *at on,
- * and sets the state for the next one. The DC streams of all slices have their turn in order, then the AC streams of
- * all slices. The frame lies from where vmx_frame_start began up to *at; it is complete after the last DC stream or
- * after the last AC stream.
- * Number: 6, 13, 14. Refused: out and the state stay as they were. */
-uint32_t vmx_frame_put(size_t slices, size_t max_dc_len, size_t max_ac_len, uint32_t ac, size_t slice,
-                       const uint8_t *stream, size_t stream_len, uint8_t *out, size_t out_len, uint32_t *ac_turn,
-                       size_t *next, size_t *at);
+ * and sets the state for the next one. width and height are the header's: slice count and limits are found from them. The
+ * DC streams of all slices have their turn in order, then the AC streams of all slices. The frame lies from where
+ * vmx_frame_start began up to *at.
+ * Number: 6, 9, 13, 14. Refused: out and the state stay as they were. */
+uint32_t vmx_frame_put(size_t width, size_t height, uint32_t ac, size_t slice, const uint8_t *stream, size_t stream_len,
+                       uint8_t *out, size_t out_len, uint32_t *ac_turn, size_t *next, size_t *at);
+
+/* Whether the frame is complete (*complete 1) or not (0), by the builder's state: after the last DC stream, with no AC
+ * stream put, and after the last AC stream. A complete frame, all of whose calls had this width and height and were handed
+ * the state that the one before left, is accepted by vmx_parse.
+ * Number: 9. Refused: *complete stays as it was. */
+uint32_t vmx_frame_complete(size_t width, size_t height, uint32_t ac_turn, size_t next, uint32_t *complete);
 
 /* Of two pictures with so many samples each, in which one a viewer finds the slice's sixteen rows (*from_new 1: the new
  * one, 0: the held one), where they begin and how many samples they are. verdict is the number that the slice's reading

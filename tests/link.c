@@ -170,22 +170,27 @@ static void frame(void) {
                                     1, 0, 0, 0, 0xF0, 3, 0, 0, 0, 1, 2, 3,     /* DC */
                                     2, 0, 0, 0, 0x80, 0x80, 1, 0, 0, 0, 9};    /* AC */
     uint8_t out[ROOM], before[ROOM];
-    size_t slices, dc, ac, next, at = 0, header_len, offset, len;
-    uint32_t turn, interlaced, quality, shift, there, views[VMX_VIEWS];
+    size_t next, at = 0, header_len, offset, len;
+    uint32_t turn, complete = 9, interlaced, quality, shift, there, views[VMX_VIEWS];
     memset(out, 0xAA, sizeof out);
 
-    check(vmx_frame_start(WIDTH, HEIGHT, 0, 36, 4, out, ROOM, &slices, &dc, &ac, &turn, &next, &at) == VMX_OK, "start");
-    check(at == 5 && slices == 2 && turn == 0 && next == 0, "state after the header");
-    check(vmx_frame_put(slices, dc, ac, 0, 0, dc0, sizeof dc0, out, ROOM, &turn, &next, &at) == VMX_OK, "DC 0");
+    check(vmx_frame_start(WIDTH, HEIGHT, 0, 36, 4, out, ROOM, &turn, &next, &at) == VMX_OK, "start");
+    check(at == 5 && turn == 0 && next == 0, "state after the header");
+    check(vmx_frame_complete(WIDTH, HEIGHT, turn, next, &complete) == VMX_OK && complete == 0, "a header is no frame");
+    check(vmx_frame_put(WIDTH, HEIGHT, 0, 0, dc0, sizeof dc0, out, ROOM, &turn, &next, &at) == VMX_OK, "DC 0");
 
     memcpy(before, out, ROOM);
-    check(vmx_frame_put(slices, dc, ac, 1, 1, ac1, sizeof ac1, out, ROOM, &turn, &next, &at) == VMX_NO_TURN, "out of turn");
+    check(vmx_frame_put(WIDTH, HEIGHT, 1, 1, ac1, sizeof ac1, out, ROOM, &turn, &next, &at) == VMX_NO_TURN, "out of turn");
+    check(memcmp(before, out, ROOM) == 0 && at == 10 && next == 1 && turn == 0, "nothing changed on refusal");
+    check(vmx_frame_put(15, HEIGHT, 0, 1, dc1, sizeof dc1, out, ROOM, &turn, &next, &at) == VMX_NO_SIZE, "no such size");
     check(memcmp(before, out, ROOM) == 0 && at == 10 && next == 1 && turn == 0, "nothing changed on refusal");
 
-    check(vmx_frame_put(slices, dc, ac, 0, 1, dc1, sizeof dc1, out, ROOM, &turn, &next, &at) == VMX_OK, "DC 1");
-    check(vmx_frame_put(slices, dc, ac, 1, 0, ac0, sizeof ac0, out, ROOM, &turn, &next, &at) == VMX_OK, "AC 0");
-    check(vmx_frame_put(slices, dc, ac, 1, 1, ac1, sizeof ac1, out, ROOM, &turn, &next, &at) == VMX_OK, "AC 1");
+    check(vmx_frame_put(WIDTH, HEIGHT, 0, 1, dc1, sizeof dc1, out, ROOM, &turn, &next, &at) == VMX_OK, "DC 1");
+    check(vmx_frame_put(WIDTH, HEIGHT, 1, 0, ac0, sizeof ac0, out, ROOM, &turn, &next, &at) == VMX_OK, "AC 0");
+    check(vmx_frame_put(WIDTH, HEIGHT, 1, 1, ac1, sizeof ac1, out, ROOM, &turn, &next, &at) == VMX_OK, "AC 1");
     check(at == sizeof whole && memcmp(out, whole, sizeof whole) == 0, "the frame's bytes");
+    check(vmx_frame_complete(WIDTH, HEIGHT, turn, next, &complete) == VMX_OK && complete == 1, "complete");
+    check(vmx_frame_complete(15, HEIGHT, turn, next, &complete) == VMX_NO_SIZE && complete == 1, "kept on refusal");
     check(out[at] == 0xAA, "no byte after the frame");
 
     check(vmx_parse(WIDTH, HEIGHT, out, at, &interlaced, &quality, &shift, &header_len, &there) == VMX_OK, "parse");
@@ -213,7 +218,7 @@ static void frame(void) {
           "their places");
 
     at = ROOM - 4;
-    check(vmx_frame_start(WIDTH, HEIGHT, 0, 36, 4, out, ROOM, &slices, &dc, &ac, &turn, &next, &at) == VMX_NO_ROOM,
+    check(vmx_frame_start(WIDTH, HEIGHT, 0, 36, 4, out, ROOM, &turn, &next, &at) == VMX_NO_ROOM,
           "no room");
     check(at == ROOM - 4, "kept on refusal");
 }

@@ -10,13 +10,13 @@ unsafe extern "C" {
     ) -> u32;
     fn vmx_frame_start(
         width: usize, height: usize, interlaced: u32, quality: u8, dc_shift: u32, out: *mut u8, out_len: usize,
-        slices: &mut usize, max_dc_len: &mut usize, max_ac_len: &mut usize, ac_turn: &mut u32, next: &mut usize,
-        at: &mut usize,
+        ac_turn: &mut u32, next: &mut usize, at: &mut usize,
     ) -> u32;
     fn vmx_frame_put(
-        slices: usize, max_dc_len: usize, max_ac_len: usize, ac: u32, slice: usize, stream: *const u8,
-        stream_len: usize, out: *mut u8, out_len: usize, ac_turn: &mut u32, next: &mut usize, at: &mut usize,
+        width: usize, height: usize, ac: u32, slice: usize, stream: *const u8, stream_len: usize, out: *mut u8,
+        out_len: usize, ac_turn: &mut u32, next: &mut usize, at: &mut usize,
     ) -> u32;
+    fn vmx_frame_complete(width: usize, height: usize, ac_turn: u32, next: usize, complete: &mut u32) -> u32;
     fn vmx_stream(
         width: usize, height: usize, frame: *const u8, frame_len: usize, ac: u32, slice: usize, offset: &mut usize,
         len: &mut usize,
@@ -37,17 +37,18 @@ fn code(rows: &[u8], stride: usize, preset: usize, dc: &mut [u8], ac: &mut [u8])
 fn frame(streams: [&[u8]; 2]) -> Vec<u8> {
     let mut out = vec![0u8; 64];
     let (o, on) = (out.as_mut_ptr(), out.len());
-    let (mut slices, mut dc, mut ac, mut turn, mut next, mut at) = (0, 0, 0, 0, 0, 0);
-    // SAFETY: the output with its own length, and six places of our own.
-    let n = unsafe {
-        vmx_frame_start(16, 16, 0, 99, 0, o, on, &mut slices, &mut dc, &mut ac, &mut turn, &mut next, &mut at)
-    };
-    expect(n == 0 && slices == 1, "the header");
+    let (mut turn, mut next, mut at, mut complete) = (0, 0, 0, 9);
+    // SAFETY: the output with its own length, and three places of our own.
+    let n = unsafe { vmx_frame_start(16, 16, 0, 99, 0, o, on, &mut turn, &mut next, &mut at) };
+    expect(n == 0, "the header");
     for (kind, s) in (0..).zip(streams) {
         let (s, sn) = (s.as_ptr(), s.len());
         // SAFETY: stream and output with their own lengths, which do not overlap, and three places of our own.
-        let n = unsafe { vmx_frame_put(slices, dc, ac, kind, 0, s, sn, o, on, &mut turn, &mut next, &mut at) };
+        let n = unsafe { vmx_frame_put(16, 16, kind, 0, s, sn, o, on, &mut turn, &mut next, &mut at) };
         expect(n == 0, "a stream");
+        // SAFETY: a place of our own.
+        let n = unsafe { vmx_frame_complete(16, 16, turn, next, &mut complete) };
+        expect(n == 0 && complete == 1, "complete after its only DC stream, and after its only AC stream");
     }
     out.truncate(at);
     out

@@ -40,9 +40,10 @@ extern "C" {
     fn vmx_stream(width: usize, height: usize, frame: Byte, frame_len: usize, ac: u32, slice: usize, offset: At,
         len: At) -> u32;
     fn vmx_frame_start(width: usize, height: usize, interlaced: u32, quality: u8, dc_shift: u32, out: ByteMut,
-        out_len: usize, slices: At, max_dc_len: At, max_ac_len: At, ac_turn: *mut u32, next: At, at: At) -> u32;
-    fn vmx_frame_put(slices: usize, max_dc_len: usize, max_ac_len: usize, ac: u32, slice: usize, stream: Byte,
-        stream_len: usize, out: ByteMut, out_len: usize, ac_turn: *mut u32, next: At, at: At) -> u32;
+        out_len: usize, ac_turn: *mut u32, next: At, at: At) -> u32;
+    fn vmx_frame_put(width: usize, height: usize, ac: u32, slice: usize, stream: Byte, stream_len: usize, out: ByteMut,
+        out_len: usize, ac_turn: *mut u32, next: At, at: At) -> u32;
+    fn vmx_frame_complete(width: usize, height: usize, ac_turn: u32, next: usize, complete: *mut u32) -> u32;
     fn vmx_shown_rows(new_len: usize, held_len: usize, stride: usize, slice: usize, verdict: u32, from_new: *mut u32,
         offset: At, len: At) -> u32;
     fn vmx_shown_time(new_time: u64, held_time: u64, verdict: u32) -> u64;
@@ -187,15 +188,21 @@ pub fn stream(width: usize, height: usize, frame: &[u8], ac: bool, slice: usize)
     Ok((offset, len))
 }
 
-/// The six numbers of a builder.
-#[derive(Clone, Copy, Debug, Default)]
+/// A builder's state: the size of its frame, whose turn it is and where the next byte goes. Only the calls make and move it.
+#[derive(Clone, Copy, Debug)]
 pub struct Build {
-    pub slices: usize,
-    pub max_dc_len: usize,
-    pub max_ac_len: usize,
-    pub ac_turn: u32,
-    pub next: usize,
-    pub at: usize,
+    width: usize,
+    height: usize,
+    ac_turn: u32,
+    next: usize,
+    at: usize,
+}
+
+impl Build {
+    /// Where the next byte goes.
+    pub fn at(&self) -> usize {
+        self.at
+    }
 }
 
 pub fn frame_start(
@@ -206,7 +213,7 @@ pub fn frame_start(
     out: &mut [u8],
     at: usize,
 ) -> Result<Build, Refused> {
-    let mut b = Build { at, ..Build::default() };
+    let mut b = Build { width, height, ac_turn: 0, next: 0, at };
     // SAFETY: the buffer is a slice, the places are our own.
     verdict(unsafe {
         vmx_frame_start(
@@ -217,9 +224,6 @@ pub fn frame_start(
             dc_shift,
             out.as_mut_ptr(),
             out.len(),
-            &mut b.slices,
-            &mut b.max_dc_len,
-            &mut b.max_ac_len,
             &mut b.ac_turn,
             &mut b.next,
             &mut b.at,
@@ -232,9 +236,8 @@ pub fn frame_put(b: &mut Build, ac: bool, slice: usize, stream: &[u8], out: &mut
     // SAFETY: stream and buffer are slices that do not overlap, the places are three fields of one struct.
     verdict(unsafe {
         vmx_frame_put(
-            b.slices,
-            b.max_dc_len,
-            b.max_ac_len,
+            b.width,
+            b.height,
             ac.into(),
             slice,
             stream.as_ptr(),
@@ -246,6 +249,13 @@ pub fn frame_put(b: &mut Build, ac: bool, slice: usize, stream: &[u8], out: &mut
             &mut b.at,
         )
     })
+}
+
+pub fn frame_complete(b: &Build) -> Result<bool, Refused> {
+    let mut complete = 0;
+    // SAFETY: a place of our own.
+    verdict(unsafe { vmx_frame_complete(b.width, b.height, b.ac_turn, b.next, &mut complete) })?;
+    Ok(complete != 0)
 }
 
 /// Whether the rows lie in the new picture, and their offset and length.

@@ -145,8 +145,7 @@ impl<'a> FrameBuilder<'a> {
 
     /// Whether all DC streams are there, and the AC streams of all slices or of none.
     pub fn is_complete(&self) -> bool {
-        let b = &self.state;
-        b.ac_turn != 0 && (b.next == 0 || b.next == b.slices)
+        ffi::frame_complete(&self.state) == Ok(true)
     }
 
     /// The frame, if it is complete.
@@ -154,7 +153,7 @@ impl<'a> FrameBuilder<'a> {
         let complete = self.is_complete();
         let FrameBuilder { out, state } = self;
         if complete {
-            out.get(..state.at)
+            out.get(..state.at())
         } else {
             None
         }
@@ -281,6 +280,40 @@ mod tests {
         assert_eq!(write(&mut out, &layout, false, 90, 0, &three, &[]), Err(Refused::Turn), "a stream too many");
         assert_eq!(write(&mut out, &layout, false, 90, 0, &two, &[vec![]]), Err(Refused::Turn), "half of the AC");
         assert_eq!(out, [7]);
+    }
+
+    /// Complete after the last DC stream and after the last AC stream, refused calls or not; only then the bytes are handed
+    /// out, and they are read.
+    #[test]
+    fn only_a_complete_frame_is_handed_out() {
+        let layout = two_slices();
+        let turns = [(false, 0), (false, 1), (true, 0), (true, 1)];
+        for puts in 0..=turns.len() {
+            let mut out = [0; 64];
+            let mut builder = FrameBuilder::new(&layout, false, 90, 0, &mut out).unwrap();
+            for &(ac, slice) in &turns[..puts] {
+                assert_eq!(builder.put_ac(2, &[]), Err(Refused::Turn));
+                let put = if ac { builder.put_ac(slice, &[7]) } else { builder.put_dc(slice, &[7]) };
+                assert_eq!(put, Ok(()));
+            }
+            let complete = puts == 2 || puts == 4;
+            assert_eq!(builder.is_complete(), complete, "{puts} streams");
+            let frame = builder.finish();
+            assert_eq!(frame.map(<[u8]>::len), if complete { Some(3 + 5 * puts) } else { None });
+            assert!(frame.is_none_or(|f| Frame::parse(&layout, f).unwrap().info().has_ac == (puts == 4)));
+        }
+    }
+
+    /// The limit of a DC stream is the DC limit, wherever the frame stands.
+    #[test]
+    fn each_kind_has_its_limit() {
+        let layout = Layout::new(16, 16).unwrap();
+        let mut out = vec![0; 4096];
+        let mut builder = FrameBuilder::new(&layout, false, 90, 0, &mut out).unwrap();
+        assert_eq!(builder.put_dc(0, &[0; 800]), Err(Refused::Limit));
+        assert_eq!(builder.put_dc(0, &[0; 512]), Ok(()));
+        assert_eq!(builder.put_ac(0, &[0; 897]), Err(Refused::Limit));
+        assert_eq!(builder.put_ac(0, &[0; 896]), Ok(()));
     }
 
     #[test]

@@ -8,10 +8,9 @@ use lib.Dec.{leb}
 use lib.ListN.{length}
 use borrow.Author.Tests.{le-leb, lt-leb, leb-true, leb-false}
 use Rattle.ask.specs.Ask.{Answer, refused, accepted, firstNo, asked}
-use Rattle.ask.specs.Limits.{shiftMax, widthMax, heightMax}
+use Rattle.ask.specs.Limits.{shiftMax}
 use Rattle.bits.specs.Lay.{lay}
-use Rattle.layout.specs.Geometry.{sizeOk, sliceCount, maxDcLen, maxAcLen}
-use Rattle.layout.proofs.Laws.{sized}
+use Rattle.layout.specs.Geometry.{sizeOk, sliceCount}
 use Rattle.builder.specs.Build.{Build, Built, headerSize, headerBytes, formatByte, startQuestions, headerOf, started, countByte}
 
 -- ---- room, by difference
@@ -42,8 +41,7 @@ unfolding startQuestions firstNo
 all-yes w h shift len at a b d = rw (le-leb shift shiftMax a, b, d)
 
 pub record Starts (w h shift len at : ℕ) : Type 0 where
-  pub wide : w ≤ widthMax
-  pub high : h ≤ heightMax
+  pub size : sizeOk w h ≡ true
   pub small : shift ≤ shiftMax
   pub room : at + headerSize shift ≤ len
 
@@ -57,8 +55,7 @@ starts w h shift len at e = go (leb shift shiftMax) refl (leb (at + headerSize s
     go true x true y false z = absurd (let k = rw (x, y, z) at e in omega arith)
     go true x true y true z =
         record {
-          wide = sized w h z .wide;
-          high = sized w h z .high;
+          size = z;
           small = leb-true shift shiftMax x;
           room = leb-true (at + headerSize shift) len y;
         }
@@ -75,7 +72,7 @@ module _ (w h : ℕ) (interlaced : Bool) (quality shift : ℕ) (out : List ℕ) 
 
   pub header-yes : firstNo (startQuestions w h shift (length out) at) ≡ 0
       → headerOf w h interlaced quality shift out at
-      ≡ accepted (record { state = started w h (at + headerSize shift); bytes = lay out at (headerBytes interlaced quality shift (countByte h)) })
+      ≡ accepted (record { state = started (at + headerSize shift); bytes = lay out at (headerBytes interlaced quality shift (countByte h)) })
   unfolding headerOf asked
   header-yes e = rw e
 
@@ -86,8 +83,8 @@ starts-at w h len at {shift} d e k = starts w h shift len at (sym e ∙ omega ar
 abbrev pub built : Build → List ℕ → Answer Built
 built b m = accepted (record { state = b; bytes = m })
 
-pub frame-built : (w h : ℕ) (interlaced : Bool) (quality : ℕ) (out : List ℕ) (at : ℕ) {shift named slices dc ac n : ℕ} {m : List ℕ}
-    → shift ≡ named → slices ≡ sliceCount h → dc ≡ maxDcLen w → ac ≡ maxAcLen w → n ≡ headerSize shift → m ≡ lay out at (headerBytes interlaced quality shift (slices % 256))
-    → built (started w h (at + headerSize named)) (lay out at (headerBytes interlaced quality named (countByte h)))
-    ≡ built (record { slices = slices; maxDcLen = dc; maxAcLen = ac; acTurn = false; next = 0; at = at + n }) m
-frame-built w h interlaced quality out at p q r t u v = rw (v, u, t, r, q, p) refl
+pub frame-built : (h : ℕ) (interlaced : Bool) (quality : ℕ) (out : List ℕ) (at : ℕ) {shift named slices n : ℕ} {m : List ℕ}
+    → shift ≡ named → slices ≡ sliceCount h → n ≡ headerSize shift → m ≡ lay out at (headerBytes interlaced quality shift (slices % 256))
+    → built (started (at + headerSize named)) (lay out at (headerBytes interlaced quality named (countByte h)))
+    ≡ built (started (at + n)) m
+frame-built h interlaced quality out at p q u v = rw (v, u, q, p) refl

@@ -8,7 +8,7 @@ use Rattle.bits.specs.Lay.{lay}
 use Rattle.ask.specs.Ask.{Answer, accepted, Question, ask, asked}
 use Rattle.ask.specs.Limits.{shiftOk}
 use Rattle.ask.specs.Numbers.{noShift, noRoom}
-use Rattle.layout.specs.Geometry.{sizeQuestion, sliceCount, maxDcLen, maxAcLen}
+use Rattle.layout.specs.Geometry.{sizeQuestion, sliceCount}
 
 -- "when no DC shift is named it writes 0"
 abbrev pub defaultShift : ℕ
@@ -30,9 +30,6 @@ headerBytes interlaced quality (suc s) count = 3 ∷ suc s ∷ formatByte interl
 
 -- whose turn it is: `acTurn` false while the DC streams are put, `next` the slice number; where the next byte goes
 pub record Build : Type 0 where
-  pub slices : ℕ
-  pub maxDcLen : ℕ
-  pub maxAcLen : ℕ
   pub acTurn : Bool
   pub next : ℕ
   pub at : ℕ
@@ -46,8 +43,9 @@ pub record Built : Type 0 where
   pub state : Build
   pub bytes : List ℕ
 
-abbrev pub started : ℕ → ℕ → ℕ → Build
-started w h at = record { slices = sliceCount h; maxDcLen = maxDcLen w; maxAcLen = maxAcLen w; acTurn = false; next = 0; at = at }
+-- the first DC stream has its turn
+abbrev pub started : ℕ → Build
+started at = record { acTurn = false; next = 0; at = at }
 
 -- 3 bytes, or 5 with the DC shift
 abbrev pub headerSize : ℕ → ℕ
@@ -63,6 +61,6 @@ headerOf w h interlaced quality shift out at =
     asked (startQuestions w h shift (length out) at)
     (accepted
     (record {
-      state = started w h (at + headerSize shift);
+      state = started (at + headerSize shift);
       bytes = lay out at (headerBytes interlaced quality shift (countByte h));
     }))

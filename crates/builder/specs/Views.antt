@@ -17,15 +17,7 @@ shiftSays shift.Default = defaultShift
 shiftSays (shift.Named s) = s
 
 abbrev pub builderSays : Builder → Build
-builderSays b =
-    record {
-      slices = b .slices;
-      maxDcLen = b .«max_dc_len»;
-      maxAcLen = b .«max_ac_len»;
-      acTurn = b .«ac_turn»;
-      next = b .next;
-      at = b .at;
-    }
+builderSays b = record { acTurn = b .«ac_turn»; next = b .next; at = b .at }
 
 -- with the buffer as the call leaves it. A refused call leaves it as it came
 abbrev pub HeaderCall : HeaderAnswer → List ℕ → List ℕ → Answer Built → Type 0

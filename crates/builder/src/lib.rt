@@ -1,7 +1,8 @@
 // Building a frame (layout.rs, `write`): the header, then the streams one by one, each named by its kind and slice number
 // (module builder::streams).
 //
-// The builder is a state by value over a lent buffer. It refuses a buffer without room; a refusal changes no byte.
+// The builder is a state by value over a lent buffer: whose turn it is, and a place. A frame's limits are not in it: each
+// call finds them from width and height. It refuses a buffer without room; a refusal changes no byte.
 pub mod streams;
 
 use ask::numbers::NO_ROOM;
@@ -26,9 +27,6 @@ pub enum Shift {
 
 // Whose turn it is, and where the next byte goes.
 pub struct Builder {
-    pub slices: usize,
-    pub max_dc_len: usize,
-    pub max_ac_len: usize,
     // whether the AC streams have their turn
     pub ac_turn: bool,
     // the slice number whose stream comes next
@@ -119,13 +117,8 @@ pub fn start_frame(
     }
     let end = at + header_size(s);
     let slices = layout::slice_count(height);
-    let max_dc_len = layout::max_dc_len(width);
-    let max_ac_len = layout::max_ac_len(width);
     put_header(out, at, interlaced, quality, s, (slices % 256) as u8);
     HeaderAnswer::Started(Builder {
-        slices,
-        max_dc_len,
-        max_ac_len,
         ac_turn: false,
         next: 0,
         at: end,

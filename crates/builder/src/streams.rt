@@ -1,26 +1,38 @@
 // Building a frame, its streams (layout.rs, `write`): one by one, each after its length.
 //
-// It refuses a stream out of turn, a stream longer than its limit and a buffer without room; a refusal hands the state back
-// as it came and changes no byte.
+// It refuses a buffer without room, a size that no frame has, a stream longer than its limit and a stream out of turn; a
+// refusal hands the state back as it came and changes no byte. Slice count and limits are those of width and height, found
+// anew for each stream: no caller can name others.
 use crate::Builder;
 use ask::numbers::NO_LIMIT;
 use ask::numbers::NO_ROOM;
+use ask::numbers::NO_SIZE;
 use ask::numbers::NO_TURN;
 use layout::Kind;
 ghost use mathlib.Core.Path.{_≡_};
+ghost use mathlib.Core.Bool.{true};
+ghost use mathlib.Core.List.{[], _∷_};
 ghost use Prim.Native.Nat.{_+_, _≤_, _<_};
 ghost use lib.Dec.{leb};
 ghost use lib.ListN.{length};
 ghost use Rattle.ask.specs.Ask.{firstNo};
+ghost use Rattle.ask.specs.Limits.{widthMax};
 ghost use Rattle.bits.specs.Lay.{lay};
+ghost use Rattle.layout.specs.Geometry.{sizeOk, sizeQuestion};
 ghost use Rattle.layout.specs.Views.{isAc};
 ghost use Rattle.builder.specs.Views.{builderSays};
-ghost use Rattle.builder.specs.streams.Put.{lengthWord, same, inTurn, limitOf, streamQuestions, streamOf, afterStream};
-ghost use Rattle.builder.specs.streams.Views.{StreamCall};
+ghost use Rattle.builder.specs.streams.Put.{lengthWord, same, inTurn, limitOf, limitQuestion, turnQuestion, streamQuestions};
+ghost use Rattle.builder.specs.streams.Put.{streamOf, afterStream, isComplete, completeOf};
+ghost use Rattle.builder.specs.streams.Views.{StreamCall, completeSays};
 
 pub enum StreamAnswer {
     Next(Builder),
     Refused(u32, Builder),
+}
+
+pub enum CompleteAnswer {
+    Complete(bool),
+    Refused(u32),
 }
 
 // Whether a length word and n bytes fit from `at` on in a buffer of len bytes.
@@ -37,12 +49,14 @@ fn fits_stream(len: usize, at: usize, n: usize) -> bool
     n <= left - 4
 }
 
-fn limit_for(b: Builder, kind: Kind) -> usize
-    ensures { λ r. ⌜ r ≡ limitOf (isAc kind) (builderSays b) ⌝ }
+// The longest stream of a kind.
+fn limit_for(width: usize, kind: Kind) -> usize
+    requires { ⌜ width ≤ widthMax ⌝ }
+    ensures { λ r. ⌜ r ≡ limitOf (isAc kind) width ⌝ }
 {
     match kind {
-        Kind::Dc => b.max_dc_len,
-        Kind::Ac => b.max_ac_len,
+        Kind::Dc => layout::max_dc_len(width),
+        Kind::Ac => layout::max_ac_len(width),
     }
 }
 
@@ -55,10 +69,10 @@ fn turn_of(b: Builder, kind: Kind) -> bool
     }
 }
 
-fn in_turn(b: Builder, kind: Kind, slice: usize) -> bool
-    ensures { λ r. ⌜ r ≡ inTurn (isAc kind) slice (builderSays b) ⌝ }
+fn in_turn(b: Builder, slices: usize, kind: Kind, slice: usize) -> bool
+    ensures { λ r. ⌜ r ≡ inTurn slices (isAc kind) slice (builderSays b) ⌝ }
 {
-    if slice < b.slices {
+    if slice < slices {
         if turn_of(b, kind) {
             return slice == b.next;
         }
@@ -67,16 +81,51 @@ fn in_turn(b: Builder, kind: Kind, slice: usize) -> bool
     false
 }
 
+// Questions 13 and 14 about a stream of n bytes, of a size that frames have.
+fn limit_and_turn(
+    b: Builder,
+    width: usize,
+    height: usize,
+    kind: Kind,
+    slice: usize,
+    n: usize,
+) -> u32
+    requires { ⌜ sizeOk width height ≡ true ⌝ }
+    ensures { λ r. ⌜ r ≡ firstNo (limitQuestion width (isAc kind) n ∷ turnQuestion height (builderSays b) (isAc kind) slice ∷ []) ⌝ }
+{
+    let limit = limit_for(width, kind);
+    let slices = layout::slice_count(height);
+    let turn = in_turn(b, slices, kind, slice);
+    let from_turn = ask::or_else(turn, NO_TURN, 0);
+    ask::or_else(n <= limit, NO_LIMIT, from_turn)
+}
+
+// Question 9, then those that rest on it: only a size that frames have has limits.
+fn from_size(b: Builder, width: usize, height: usize, kind: Kind, slice: usize, n: usize) -> u32
+    ensures { λ r. ⌜ r ≡ firstNo (sizeQuestion width height
+        ∷ limitQuestion width (isAc kind) n ∷ turnQuestion height (builderSays b) (isAc kind) slice ∷ []) ⌝ }
+{
+    if layout::size_ok(width, height) {
+        return limit_and_turn(b, width, height, kind, slice, n);
+    }
+    NO_SIZE
+}
+
 // The first "no" among the questions about a stream of n bytes, 0 where there is none.
-fn stream_number(b: Builder, kind: Kind, slice: usize, n: usize, len: usize) -> u32
-    ensures { λ r. ⌜ r ≡ firstNo (streamQuestions (builderSays b) (isAc kind) slice n len) ⌝ }
+fn stream_number(
+    b: Builder,
+    width: usize,
+    height: usize,
+    kind: Kind,
+    slice: usize,
+    n: usize,
+    len: usize,
+) -> u32
+    ensures { λ r. ⌜ r ≡ firstNo (streamQuestions width height (builderSays b) (isAc kind) slice n len) ⌝ }
 {
     let room = fits_stream(len, b.at, n);
-    let limit = limit_for(b, kind);
-    let turn = in_turn(b, kind, slice);
-    let from_turn = ask::or_else(turn, NO_TURN, 0);
-    let from_limit = ask::or_else(n <= limit, NO_LIMIT, from_turn);
-    ask::or_else(room, NO_ROOM, from_limit)
+    let from_size = from_size(b, width, height, kind, slice, n);
+    ask::or_else(room, NO_ROOM, from_size)
 }
 
 // Stores a 32-bit length, low byte first.
@@ -90,21 +139,15 @@ fn put_length(out: &mut [u8], at: usize, n: usize)
     out[at + 3] = (n / 16777216 % 256) as u8;
 }
 
-// The state after a stream that ends at `at`.
-fn next_state(b: Builder, at: usize) -> Builder
-    requires { ⌜ b .next < b .slices ⌝ }
-    ensures { λ r. ⌜ builderSays r ≡ afterStream (builderSays b) at ⌝ }
+// The state after a stream that ends at `at`, in a frame of so many slices.
+fn next_state(b: Builder, slices: usize, at: usize) -> Builder
+    requires { ⌜ b .next < slices ⌝ }
+    ensures { λ r. ⌜ builderSays r ≡ afterStream slices (builderSays b) at ⌝ }
 {
-    let last = b.next + 1 == b.slices;
-    let slices = b.slices;
-    let max_dc_len = b.max_dc_len;
-    let max_ac_len = b.max_ac_len;
+    let last = b.next + 1 == slices;
     let next = b.next + 1;
     if b.ac_turn {
         return Builder {
-            slices,
-            max_dc_len,
-            max_ac_len,
             ac_turn: true,
             next,
             at,
@@ -112,18 +155,12 @@ fn next_state(b: Builder, at: usize) -> Builder
     }
     if last {
         return Builder {
-            slices,
-            max_dc_len,
-            max_ac_len,
             ac_turn: true,
             next: 0,
             at,
         };
     }
     Builder {
-        slices,
-        max_dc_len,
-        max_ac_len,
         ac_turn: false,
         next,
         at,
@@ -131,17 +168,50 @@ fn next_state(b: Builder, at: usize) -> Builder
 }
 
 // Puts the stream of a slice after what was written.
-pub fn put_stream(b: Builder, kind: Kind, slice: usize, s: &[u8], out: &mut [u8]) -> StreamAnswer
+pub fn put_stream(
+    width: usize,
+    height: usize,
+    b: Builder,
+    kind: Kind,
+    slice: usize,
+    s: &[u8],
+    out: &mut [u8],
+) -> StreamAnswer
     ensures { λ r. ⌜ StreamCall b r (now (out .entry)) (now (out .exit))
-        (streamOf (builderSays b) (isAc kind) slice (now (s .entry)) (now (out .entry))) ⌝ }
+        (streamOf width height (builderSays b) (isAc kind) slice (now (s .entry)) (now (out .entry))) ⌝ }
 {
     let n = s.len();
-    let x = stream_number(b, kind, slice, n, out.len());
+    let x = stream_number(b, width, height, kind, slice, n, out.len());
     if 0 < x {
         return StreamAnswer::Refused(x, b);
     }
+    let slices = layout::slice_count(height);
     let at = b.at;
     put_length(out, at, n);
     copy::copy_in(out, at + 4, s);
-    StreamAnswer::Next(next_state(b, at + 4 + n))
+    StreamAnswer::Next(next_state(b, slices, at + 4 + n))
+}
+
+// Whether a frame of so many slices is complete.
+fn is_complete(slices: usize, ac_turn: bool, next: usize) -> bool
+    ensures { λ r. ⌜ r ≡ isComplete slices «ac_turn» next ⌝ }
+{
+    if ac_turn {
+        if next == 0 {
+            return true;
+        }
+        return next == slices;
+    }
+    false
+}
+
+// Whether the frame is complete, by whose turn it is: all DC streams are there, and the AC streams of all slices or of none.
+pub fn complete(width: usize, height: usize, ac_turn: bool, next: usize) -> CompleteAnswer
+    ensures { λ r. ⌜ completeSays r ≡ completeOf width height «ac_turn» next ⌝ }
+{
+    if layout::size_ok(width, height) {
+        let slices = layout::slice_count(height);
+        return CompleteAnswer::Complete(is_complete(slices, ac_turn, next));
+    }
+    CompleteAnswer::Refused(NO_SIZE)
 }

@@ -1,5 +1,6 @@
 pub mod Entries
 pub mod Orders
+pub mod Told
 pub mod AcBack
 pub mod Residues
 pub mod DcBack

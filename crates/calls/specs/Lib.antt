@@ -6,3 +6,4 @@ pub mod ReadPlane
 pub mod Questions
 pub mod Legal
 pub mod Previews
+pub mod Told

@@ -1,10 +1,13 @@
 -- A reading call on a slice: what the verdict leaves, and its answer.
-use mathlib.Core.Path.{_≡_}
+use mathlib.Core.Path.{_≡_, refl}
 use mathlib.Core.List.{List}
 use Prim.Native.Nat.{ℕ, _<_}
 use Rattle.calls.specs.Arguments.{Call, planesLent, PerStream, Buffers, lengthsOf}
 use Rattle.calls.proofs.Legal.{reading-legal}
-use Rattle.slice.specs.Calls.{rowsOf, decode}
+use Rattle.calls.specs.Told.{refusal, acceptance}
+use Rattle.calls.proofs.Told.{told-refused, told-accepted}
+use Rattle.slice.specs.Calls.{rowsOf, Decoded, decode}
+use Rattle.questions.specs.answers.Read.{readTold}
 use Rattle.judge.proofs.verdict.Laws.{passed, refused-is, accepted-is}
 use Rattle.decoder.specs.Storing.{SliceGood, SliceStored}
 
@@ -15,8 +18,8 @@ module _ (c : Call) (b : Buffers) (at : PerStream) {n : ℕ} (e : n ≡ decode c
       let l = reading-legal c (lengthsOf b) at (p .asked) in
       record { legal = l .legal; dc-start = l .dc-start; ac-start = l .ac-start; good = p .good }
 
-  pub slice-refused : 0 < n → record { number = n; at = at; rows = rowsOf (planesLent c) } ≡ decode c b at
-  slice-refused h = refused-is c b at e h
+  pub slice-refused : 0 < n → refusal (record { number = n; at = at; rows = rowsOf (planesLent c) }) ≡ readTold (decode c b at)
+  slice-refused h = told-refused (λ (k : Decoded). k .number) (refused-is c b at e h) h
 
-  pub slice-accepted : {end : PerStream} {rows : List (List ℕ)} → n ≡ 0 → SliceStored c b at end rows → record { number = 0; at = end; rows = rows } ≡ decode c b at
-  slice-accepted z s = accepted-is c b at (passed c b at e z) (s .ends) (s .stored)
+  pub slice-accepted : {end : PerStream} {rows : List (List ℕ)} → n ≡ 0 → SliceStored c b at end rows → acceptance (record { number = 0; at = end; rows = rows }) ≡ readTold (decode c b at)
+  slice-accepted z s = told-accepted (λ (k : Decoded). k .number) (accepted-is c b at (passed c b at e z) (s .ends) (s .stored)) refl

@@ -4,7 +4,7 @@ ghost use mathlib.Core.List.{[], _∷_};
 ghost use Rattle.calls.specs.Arguments.{ten, buffers};
 ghost use Rattle.calls.specs.Views.{positionsBy, planeCall, sliceCall};
 ghost use Rattle.slice.specs.Calls.{decode};
-ghost use Rattle.questions.specs.answers.Read.{readSays};
+ghost use Rattle.questions.specs.answers.Read.{readSays, readTold};
 ghost use Rattle.decoder.specs.Storing.{SliceGood, SliceStored};
 use calls::Four;
 use calls::Positions;
@@ -22,14 +22,14 @@ pub fn decode_plane(
     at: Positions,
 ) -> ReadAnswer
     ensures { λ r. ⌜ readSays r (now (rows .exit) ∷ [])
-        ≡ decode (planeCall ten s h (now (rows .entry))) (buffers (now (dc .entry)) (now (ac .entry))) (positionsBy at) ⌝ }
+        ≡ readTold (decode (planeCall ten s h (now (rows .entry))) (buffers (now (dc .entry)) (now (ac .entry))) (positionsBy at)) ⌝ }
 {
     let n = judge::verdict::plane(s, h, rows.len(), dc, ac, at);
     if 0 < n {
         return ReadAnswer::Refused(n, at);
     }
-    let e = decplane::ten::plane(rows, h, s, dc, ac, at);
-    ReadAnswer::Accepted(e)
+    let end = decplane::ten::plane(rows, h, s, dc, ac, at);
+    ReadAnswer::Accepted(end)
 }
 
 // The storing pass over a slice whose streams were judged good: the first planes in order, each from where the streams of the plane
@@ -96,14 +96,14 @@ pub fn decode_slice(
     at: Positions,
 ) -> ReadAnswer
     ensures { λ r. ⌜ readSays r (now (p0 .exit) ∷ now (p1 .exit) ∷ now (p2 .exit) ∷ now (p3 .exit) ∷ [])
-        ≡ decode (sliceCall ten s f (now (p0 .entry)) (now (p1 .entry)) (now (p2 .entry)) (now (p3 .entry)))
-        (buffers (now (dc .entry)) (now (ac .entry))) (positionsBy at) ⌝ }
+        ≡ readTold (decode (sliceCall ten s f (now (p0 .entry)) (now (p1 .entry)) (now (p2 .entry)) (now (p3 .entry)))
+        (buffers (now (dc .entry)) (now (ac .entry))) (positionsBy at)) ⌝ }
 {
     let rows = [p0.len(), p1.len(), p2.len(), p3.len()];
     let number = judge::verdict::slice(s, f, rows, dc, ac, at);
     if 0 < number {
         return ReadAnswer::Refused(number, at);
     }
-    let e = slice(p0, p1, p2, p3, f, s, dc, ac, at);
-    ReadAnswer::Accepted(e)
+    let ends = slice(p0, p1, p2, p3, f, s, dc, ac, at);
+    ReadAnswer::Accepted(ends)
 }

@@ -10,9 +10,12 @@ use Rattle.calls.specs.Arguments.{Settings, Plane, Call, onePlane, settingsOf, 
 use Rattle.calls.specs.Streams.{dcStream, acStream}
 use Rattle.slice.specs.Plane.{coefficients}
 use Rattle.slice.specs.Room.{codingQuestions}
+use Rattle.calls.specs.Told.{refusal, acceptance}
+use Rattle.calls.proofs.Told.{told-refused, told-accepted}
 use Rattle.slice.specs.Calls.{Coded, ownStreams, encode}
 use Rattle.slice.proofs.Legal.{coding-legal}
 use Rattle.encplane.specs.Coding.{PlaneOk, PlaneDone}
+use Rattle.questions.specs.answers.Code.{codeTold}
 use Rattle.encoder.specs.Coding.{SliceOk, SliceDone}
 
 abbrev pub coded : ℕ → PerStream → Buffers → Coded
@@ -23,10 +26,13 @@ module _ (c : Call) (b : Buffers) (at : PerStream) where
   abbrev pub number : ℕ
   number = firstNo (codingQuestions c (lengthsOf b) at)
 
-  pub refused-is : {n : ℕ} → n ≡ number → 0 < n → coded n at b ≡ encode c b at
+  same-refused : {n : ℕ} → n ≡ number → 0 < n → coded n at b ≡ encode c b at
   unfolding encode
-  refused-is {n = zero} e h = absurd (omega arith)
-  refused-is {n = suc n} e h = rw (← e) refl
+  same-refused {n = zero} e h = absurd (omega arith)
+  same-refused {n = suc n} e h = rw (← e) refl
+
+  pub refused-is : {n : ℕ} → n ≡ number → 0 < n → refusal (coded n at b) ≡ codeTold (encode c b at)
+  refused-is e h = told-refused (λ (k : Coded). k .number) (same-refused e h) h
 
   pub slice-ok : number ≡ 0 → SliceOk c b at
   slice-ok e =
@@ -36,11 +42,14 @@ module _ (c : Call) (b : Buffers) (at : PerStream) where
         planes-ok = record { settings = k .legal .settings; planes = k .legal .planes; dc-room = k .dc-room; ac-room = k .ac-room };
       }
 
-  pub slice-is : {n : ℕ} {r : PerStream} {b' : Buffers} → n ≡ number → n ≡ 0 → SliceDone c b at r b' → coded 0 r b' ≡ encode c b at
+  same-slice : {n : ℕ} {r : PerStream} {b' : Buffers} → n ≡ number → n ≡ 0 → SliceDone c b at r b' → coded 0 r b' ≡ encode c b at
   unfolding encode
-  slice-is e h p =
+  same-slice e h p =
       rw (sym e ∙ h)
       (λ i. record { number = 0; at = record { dc = p .dc-end i; ac = p .ac-end i }; buffers = record { dcBytes = p .dc-bytes i; acBytes = p .ac-bytes i } })
+
+  pub slice-is : {n : ℕ} {r : PerStream} {b' : Buffers} → n ≡ number → n ≡ 0 → SliceDone c b at r b' → acceptance (coded 0 r b') ≡ codeTold (encode c b at)
+  slice-is e h p = told-accepted (λ (k : Coded). k .number) (same-slice e h p) refl
 
 -- ---- one plane
 module _ (σ : Settings) (p : Plane) (b : Buffers) (at : PerStream) where
@@ -67,5 +76,5 @@ module _ (σ : Settings) (p : Plane) (b : Buffers) (at : PerStream) where
         ac-end = d .ac-end ∙ ap (λ (l : List ℕ). at .ac + length l) (sym na);
       }
 
-  pub plane-is : {n : ℕ} {r : PerStream} {b' : Buffers} → n ≡ number (onePlane σ p) b at → n ≡ 0 → PlaneDone σ p b at r b' → coded 0 r b' ≡ encode (onePlane σ p) b at
+  pub plane-is : {n : ℕ} {r : PerStream} {b' : Buffers} → n ≡ number (onePlane σ p) b at → n ≡ 0 → PlaneDone σ p b at r b' → acceptance (coded 0 r b') ≡ codeTold (encode (onePlane σ p) b at)
   plane-is e h d = slice-is (onePlane σ p) b at e h (alone d)

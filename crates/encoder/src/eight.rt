@@ -3,7 +3,7 @@ ghost use mathlib.Core.Path.{_≡_};
 ghost use Rattle.calls.specs.Arguments.{eight, buffers};
 ghost use Rattle.calls.specs.Views.{planeCall, sliceCall, positionsBy};
 ghost use Rattle.slice.specs.Calls.{encode};
-ghost use Rattle.questions.specs.answers.Code.{codeSays};
+ghost use Rattle.questions.specs.answers.Code.{codeSays, codeTold};
 ghost use Rattle.encoder.specs.Coding.{SliceOk, SliceDone};
 use calls::Four;
 use calls::Positions;
@@ -22,7 +22,7 @@ pub fn encode_plane(
     at: Positions,
 ) -> CodeAnswer
     ensures { λ r. ⌜ codeSays r (now (dcs .exit)) (now (acs .exit))
-        ≡ encode (planeCall eight s h (now (rows .entry))) (buffers (now (dcs .entry)) (now (acs .entry))) (positionsBy at) ⌝ }
+        ≡ codeTold (encode (planeCall eight s h (now (rows .entry))) (buffers (now (dcs .entry)) (now (acs .entry))) (positionsBy at)) ⌝ }
 {
     let dc = Stream {
         len: dcs.len(),
@@ -36,8 +36,8 @@ pub fn encode_plane(
     if 0 < n {
         return CodeAnswer::Refused(n, at);
     }
-    let ends = encplane::eight::plane(rows, h, s, dcs, acs, at);
-    CodeAnswer::Accepted(ends)
+    let end = encplane::eight::plane(rows, h, s, dcs, acs, at);
+    CodeAnswer::Accepted(end)
 }
 
 // The slice coder on planes that the questions let through: each plane starts where the streams of the plane before end.
@@ -103,8 +103,8 @@ pub fn encode_slice(
     at: Positions,
 ) -> CodeAnswer
     ensures { λ r. ⌜ codeSays r (now (dcs .exit)) (now (acs .exit))
-        ≡ encode (sliceCall eight s f (now (p0 .entry)) (now (p1 .entry)) (now (p2 .entry)) (now (p3 .entry)))
-        (buffers (now (dcs .entry)) (now (acs .entry))) (positionsBy at) ⌝ }
+        ≡ codeTold (encode (sliceCall eight s f (now (p0 .entry)) (now (p1 .entry)) (now (p2 .entry)) (now (p3 .entry)))
+        (buffers (now (dcs .entry)) (now (acs .entry))) (positionsBy at)) ⌝ }
 {
     let rows = [p0.len(), p1.len(), p2.len(), p3.len()];
     let dc = Stream {

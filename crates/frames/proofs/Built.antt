@@ -9,6 +9,7 @@ use lib.Seq.{length-take-le, take-append-seam, drop-at}
 use Rattle.ask.specs.Limits.{shiftMax}
 use Rattle.ask.specs.Ask.{Answer, refused, accepted, andThen}
 use Rattle.bits.specs.Lay.{lay}
+use Rattle.layout.specs.Geometry.{sliceCount}
 use Rattle.parser.specs.Frame.{viewOf, bytesOf}
 use Rattle.builder.specs.Build.{Build, Built, headerSize, headerBytes, countByte, started}
 use Rattle.builder.specs.streams.Put.{allStreams, writeOf}
@@ -22,7 +23,7 @@ laid-part out at xs h =
     let rest = drop (at + length xs) out in
     ap (take (length xs)) (drop-at (take at out) (xs ++ rest) at (length-take-le at out h)) ∙ take-append-seam xs rest
 
-frame-is : (b : Build) (out : List ℕ) (at : ℕ) (xs : List ℕ) → at ≤ length out → b .at ≡ at + length xs → frameIn at (record { state = b; bytes = lay out at xs }) ≡ xs
+pub frame-is : (b : Build) (out : List ℕ) (at : ℕ) (xs : List ℕ) → at ≤ length out → b .at ≡ at + length xs → frameIn at (record { state = b; bytes = lay out at xs }) ≡ xs
 frame-is b out at xs h e =
     let n : b .at - at ≡ length xs = omega arith in
     ap (λ (k : ℕ). take k (drop at (lay out at xs))) n ∙ laid-part out at xs h
@@ -40,21 +41,21 @@ module _ (w h : ℕ) (interlaced : Bool) (quality shift : ℕ) where
   frame-built (s ∷ ss) [] out at small p r =
       let head = headerBytes interlaced quality shift (countByte h) in
       let x = allStreams (s ∷ ss) in
-      let start = started w h (at + headerSize shift) in
-      let m : afterAll start (s ∷ ss) .at ≡ at + length (head ++ (x ++ allStreams [])) =
-      all-at start (s ∷ ss) ∙ omega (arith, header-length interlaced quality shift (countByte h), length-append head (x ++ allStreams []), length-append x (allStreams []), ap length none) in
+      let start = started (at + headerSize shift) in
+      let m : afterAll (sliceCount h) start (s ∷ ss) .at ≡ at + length (head ++ (x ++ allStreams [])) =
+      all-at (sliceCount h) start (s ∷ ss) ∙ omega (arith, header-length interlaced quality shift (countByte h), length-append head (x ++ allStreams []), length-append x (allStreams []), ap length none) in
       rw (builds-dc w h interlaced quality shift (p .size) small s ss (p .dcAll) (p .dcFit) out at r)
-      (ap accepted (frame-is (afterAll start (s ∷ ss)) out at (head ++ (x ++ allStreams [])) (omega arith) m))
+      (ap accepted (frame-is (afterAll (sliceCount h) start (s ∷ ss)) out at (head ++ (x ++ allStreams [])) (omega arith) m))
   frame-built (s ∷ ss) (a ∷ rest) out at small p r =
       let head = headerBytes interlaced quality shift (countByte h) in
       let x = allStreams (s ∷ ss) in
       let y = allStreams (a ∷ rest) in
-      let start = started w h (at + headerSize shift) in
-      let mid = afterAll start (s ∷ ss) in
-      let m : afterAll mid (a ∷ rest) .at ≡ at + length (head ++ (x ++ y)) =
-      all-at mid (a ∷ rest) ∙ omega (arith, all-at start (s ∷ ss), header-length interlaced quality shift (countByte h), length-append head (x ++ y), length-append x y) in
+      let start = started (at + headerSize shift) in
+      let mid = afterAll (sliceCount h) start (s ∷ ss) in
+      let m : afterAll (sliceCount h) mid (a ∷ rest) .at ≡ at + length (head ++ (x ++ y)) =
+      all-at (sliceCount h) mid (a ∷ rest) ∙ omega (arith, all-at (sliceCount h) start (s ∷ ss), header-length interlaced quality shift (countByte h), length-append head (x ++ y), length-append x y) in
       rw (builds w h interlaced quality shift (p .size) small s ss (p .dcAll) (p .dcFit) out at a rest (p .acAll) (p .acFit) r)
-      (ap accepted (frame-is (afterAll mid (a ∷ rest)) out at (head ++ (x ++ y)) (omega arith) m))
+      (ap accepted (frame-is (afterAll (sliceCount h) mid (a ∷ rest)) out at (head ++ (x ++ y)) (omega arith) m))
 
   -- header and streams put, then the view of a slice read: the stream that was put, or 14
   pub built-back : (dc ac : List (List ℕ)) (out : List ℕ) (at : ℕ) → shift ≤ shiftMax → Complete w h dc ac [] → at + length (writeOf h interlaced quality shift dc ac) ≤ length out → (kind : Bool) (slice : ℕ)

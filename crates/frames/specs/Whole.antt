@@ -11,15 +11,15 @@ use Rattle.builder.specs.Build.{Build, Built, headerOf}
 use Rattle.builder.specs.streams.Put.{streamOf}
 
 -- streams of one kind, those of the slices k, k + 1, .. in turn
-unfoldable pub putAll : Build → Bool → ℕ → List (List ℕ) → List ℕ → Answer Built
-putAll b ac k [] out = accepted (record { state = b; bytes = out })
-putAll b ac k (s ∷ ss) out = andThen (streamOf b ac k s out) (λ r. putAll (r .state) ac (suc k) ss (r .bytes))
+unfoldable pub putAll : ℕ → ℕ → Build → Bool → ℕ → List (List ℕ) → List ℕ → Answer Built
+putAll w h b ac k [] out = accepted (record { state = b; bytes = out })
+putAll w h b ac k (s ∷ ss) out = andThen (streamOf w h b ac k s out) (λ r. putAll w h (r .state) ac (suc k) ss (r .bytes))
 
 -- the header, all DC streams, all AC streams or none
 unfoldable pub buildOf : ℕ → ℕ → Bool → ℕ → ℕ → List (List ℕ) → List (List ℕ) → List ℕ → ℕ → Answer Built
 buildOf w h interlaced quality shift dc ac out at =
     andThen (headerOf w h interlaced quality shift out at) (λ r.
-    andThen (putAll (r .state) false 0 dc (r .bytes)) (λ q. putAll (q .state) true 0 ac (q .bytes)))
+    andThen (putAll w h (r .state) false 0 dc (r .bytes)) (λ q. putAll w h (q .state) true 0 ac (q .bytes)))
 
 -- every stream within the limit
 abbrev pub Within : ℕ → List (List ℕ) → Type 0

@@ -1,6 +1,7 @@
 // Answers of the calls on frames, handed out: the number is returned, the rest of the answer goes into the places that the
 // caller lends for it. A refusal leaves them as they were; a refused part has offset 0 and length 0.
 use builder::HeaderAnswer;
+use builder::streams::CompleteAnswer;
 use builder::streams::StreamAnswer;
 use layout::Kind;
 use layout::LayoutAnswer;
@@ -16,12 +17,12 @@ ghost use Rattle.parser.specs.Views.{frameSays, viewSays};
 ghost use Rattle.tables.specs.Quality.{qualityPreset};
 ghost use Rattle.builder.specs.Build.{Built};
 ghost use Rattle.builder.specs.Views.{HeaderCall};
-ghost use Rattle.builder.specs.streams.Views.{StreamCall};
+ghost use Rattle.builder.specs.streams.Views.{StreamCall, completeSays};
 ghost use Rattle.builder.specs.declared.Builder.{Builder};
 ghost use Rattle.shown.specs.Shown.{wasAccepted};
 ghost use Rattle.outs.specs.frame.Outs.{isOn, flagOf, isImageRow, rowLeft, handed, handedBy};
 ghost use Rattle.outs.specs.frame.Outs.{layoutPlaces, layoutParts, framePlaces, frameParts, viewPlaces, viewParts, emptyPart};
-ghost use Rattle.outs.specs.frame.Outs.{startPlaces, startParts, putPlaces, putParts};
+ghost use Rattle.outs.specs.frame.Outs.{buildPlaces, buildParts};
 
 // A truth value as a number.
 pub fn flag(b: bool) -> u32
@@ -144,28 +145,15 @@ pub fn view_out(answer: ViewAnswer, offset: &mut usize, len: &mut usize) -> u32
 }
 
 // Of a header that was written, or not: the builder's state.
-pub fn header_out(
-    answer: HeaderAnswer,
-    slices: &mut usize,
-    max_dc_len: &mut usize,
-    max_ac_len: &mut usize,
-    ac_turn: &mut u32,
-    next: &mut usize,
-    at: &mut usize,
-) -> u32
+pub fn header_out(answer: HeaderAnswer, ac_turn: &mut u32, next: &mut usize, at: &mut usize) -> u32
     ensures { λ r. ⌜ ((out out' : List ℕ) (a : Answer Built) → HeaderCall answer out out' a → handed r
-        (startPlaces out' (now (slices .exit)) (now («max_dc_len» .exit)) (now («max_ac_len» .exit))
-        (now («ac_turn» .exit)) (now (next .exit)) (now (at .exit)))
-        ≡ handedBy a startParts
-        (startPlaces out (now (slices .entry)) (now («max_dc_len» .entry)) (now («max_ac_len» .entry))
-        (now («ac_turn» .entry)) (now (next .entry)) (now (at .entry)))) ⌝ }
+        (buildPlaces out' (now («ac_turn» .exit)) (now (next .exit)) (now (at .exit)))
+        ≡ handedBy a buildParts
+        (buildPlaces out (now («ac_turn» .entry)) (now (next .entry)) (now (at .entry)))) ⌝ }
 {
     match answer {
         HeaderAnswer::Refused(x) => x,
         HeaderAnswer::Started(b) => {
-            *slices = b.slices;
-            *max_dc_len = b.max_dc_len;
-            *max_ac_len = b.max_ac_len;
             *ac_turn = flag(b.ac_turn);
             *next = b.next;
             *at = b.at;
@@ -174,12 +162,12 @@ pub fn header_out(
     }
 }
 
-// Of a stream that was put, or not: what moves in the builder's state.
+// Of a stream that was put, or not: the builder's state.
 pub fn stream_out(answer: StreamAnswer, ac_turn: &mut u32, next: &mut usize, at: &mut usize) -> u32
     ensures { λ r. ⌜ ((was : Builder) (out out' : List ℕ) (a : Answer Built) → StreamCall was answer out out' a → handed r
-        (putPlaces out' (now («ac_turn» .exit)) (now (next .exit)) (now (at .exit)))
-        ≡ handedBy a putParts
-        (putPlaces out (now («ac_turn» .entry)) (now (next .entry)) (now (at .entry)))) ⌝ }
+        (buildPlaces out' (now («ac_turn» .exit)) (now (next .exit)) (now (at .exit)))
+        ≡ handedBy a buildParts
+        (buildPlaces out (now («ac_turn» .entry)) (now (next .entry)) (now (at .entry)))) ⌝ }
 {
     match answer {
         StreamAnswer::Refused(x, _) => x,
@@ -187,6 +175,19 @@ pub fn stream_out(answer: StreamAnswer, ac_turn: &mut u32, next: &mut usize, at:
             *ac_turn = flag(s.ac_turn);
             *next = s.next;
             *at = s.at;
+            0
+        }
+    }
+}
+
+// Of a frame that is complete, or not.
+pub fn complete_out(answer: CompleteAnswer, complete: &mut u32) -> u32
+    ensures { λ r. ⌜ handed r (now (complete .exit)) ≡ handedBy (completeSays answer) flagOf (now (complete .entry)) ⌝ }
+{
+    match answer {
+        CompleteAnswer::Refused(x) => x,
+        CompleteAnswer::Complete(b) => {
+            *complete = flag(b);
             0
         }
     }

@@ -9,6 +9,7 @@ ghost use mathlib.Core.Path.{_≡_};
 ghost use mathlib.Core.List.{List};
 ghost use Prim.Native.Nat.{ℕ};
 ghost use Rattle.questions.specs.answers.Size.{sizeSays};
+ghost use Rattle.calls.specs.Told.{content};
 ghost use Rattle.preview.specs.Answer.{previewSays};
 ghost use Rattle.preview.specs.report.Report.{reportSays};
 ghost use Rattle.outs.specs.plane.Planes.{codedAs, decodedAs, previewedAs, reportedAs, sizedAs};
@@ -27,7 +28,7 @@ fn positions_out(number: u32, at: Positions, dc_at: &mut usize, ac_at: &mut usiz
 // Of a coding call: both positions, as they were given where it is refused.
 pub fn coded_out(answer: CodeAnswer, dc_at: &mut usize, ac_at: &mut usize) -> u32
     ensures { λ r. ⌜ ((dcs : List ℕ) (acs : List ℕ)
-        → codedAs r (now («dc_at» .exit)) (now («ac_at» .exit)) dcs acs ≡ codeSays answer dcs acs) ⌝ }
+        → codedAs r (now («dc_at» .exit)) (now («ac_at» .exit)) dcs acs ≡ content (codeSays answer dcs acs)) ⌝ }
 {
     match answer {
         CodeAnswer::Refused(number, start) => positions_out(number, start, dc_at, ac_at),
@@ -38,7 +39,7 @@ pub fn coded_out(answer: CodeAnswer, dc_at: &mut usize, ac_at: &mut usize) -> u3
 // Of a reading call.
 pub fn read_out(answer: ReadAnswer, dc_at: &mut usize, ac_at: &mut usize) -> u32
     ensures { λ r. ⌜ ((lent : List (List ℕ))
-        → decodedAs r (now («dc_at» .exit)) (now («ac_at» .exit)) lent ≡ readSays answer lent) ⌝ }
+        → decodedAs r (now («dc_at» .exit)) (now («ac_at» .exit)) lent ≡ content (readSays answer lent)) ⌝ }
 {
     match answer {
         ReadAnswer::Refused(number, start) => positions_out(number, start, dc_at, ac_at),
@@ -49,7 +50,7 @@ pub fn read_out(answer: ReadAnswer, dc_at: &mut usize, ac_at: &mut usize) -> u32
 // Of a preview: the position after the plane's DC stream; a refusal leaves the place as it was.
 pub fn preview_out(answer: PlaneEnd, dc_at: &mut usize) -> u32
     ensures { λ r. ⌜ ((upper : List ℕ) (lower : List ℕ)
-        → previewedAs r (now («dc_at» .exit)) upper lower ≡ previewSays (now («dc_at» .entry)) answer upper lower) ⌝ }
+        → previewedAs r (now («dc_at» .exit)) upper lower ≡ content (previewSays (now («dc_at» .entry)) answer upper lower)) ⌝ }
 {
     match answer {
         PlaneEnd::Refused(n) => n,
@@ -63,7 +64,7 @@ pub fn preview_out(answer: PlaneEnd, dc_at: &mut usize) -> u32
 // Of a block report: the position after the plane's AC stream; a refusal leaves the place as it was.
 pub fn report_out(answer: PlaneEnd, ac_at: &mut usize) -> u32
     ensures { λ r. ⌜ ((bytes : List ℕ)
-        → reportedAs r (now («ac_at» .exit)) bytes ≡ reportSays (now («ac_at» .entry)) answer bytes) ⌝ }
+        → reportedAs r (now («ac_at» .exit)) bytes ≡ content (reportSays (now («ac_at» .entry)) answer bytes)) ⌝ }
 {
     match answer {
         PlaneEnd::Refused(n) => n,

@@ -17,9 +17,12 @@ use Rattle.calls.specs.ReadPlane.{DcSteps, badSteps, dcSteps, readSteps}
 use Rattle.calls.specs.Grid.{blocksOf}
 use Rattle.calls.specs.Questions.{previewQuestions}
 use Rattle.calls.specs.Previews.{Previewed, previewBytes, previewedBy, preview}
+use Rattle.calls.specs.Told.{refusal, acceptance}
+use Rattle.calls.proofs.Told.{told-refused, told-accepted}
 use Rattle.calls.proofs.Legal.{stride-legal}
 use Rattle.acread.specs.through.Codes.{goodSteps, dcEnd}
 use Rattle.blockread.specs.dc.Steps.{stepList}
+use Rattle.preview.specs.Answer.{previewTold}
 use Rattle.preview.specs.row.Row.{Stored}
 
 -- every answer is yes
@@ -68,17 +71,22 @@ by-end shift place stride at upper lower (dcSteps ts a) {q} {u} {v} e f g = cc
 
 module _ (shift place stride : ℕ) (upper lower dc : List ℕ) (at : ℕ) where
   pub answer-no : {n : ℕ} → n ≡ firstNo (previewQuestions shift place stride upper lower (length dc) at) → 0 < n
-      → record { number = n; at = at; upper = upper; lower = lower } ≡ preview shift place stride upper lower dc at
+      → refusal (record { number = n; at = at; upper = upper; lower = lower }) ≡ previewTold (preview shift place stride upper lower dc at)
   unfolding preview
-  answer-no e h = by-number _ shift place stride at upper lower (readSteps (blocksOf stride) (bitAt dc) (8 * at)) e h
+  answer-no e h =
+      told-refused (λ (k : Previewed). k .number) (by-number _ shift place stride at upper lower (readSteps (blocksOf stride) (bitAt dc) (8 * at)) e h) h
 
   module _ (y : firstNo (previewQuestions shift place stride upper lower (length dc) at) ≡ 0) where
     pub answer-bad : goodSteps (readSteps (2 * (stride / 8)) (bitAt dc) (8 * at)) ≡ false
-        → record { number = noCode; at = at; upper = upper; lower = lower } ≡ preview shift place stride upper lower dc at
+        → refusal (record { number = noCode; at = at; upper = upper; lower = lower }) ≡ previewTold (preview shift place stride upper lower dc at)
     unfolding preview
-    answer-bad e = rw y (by-bad shift place stride at upper lower (readSteps (2 * (stride / 8)) (bitAt dc) (8 * at)) e)
+    answer-bad e =
+        told-refused (λ (k : Previewed). k .number) (rw y (by-bad shift place stride at upper lower (readSteps (2 * (stride / 8)) (bitAt dc) (8 * at)) e)) (omega arith)
 
     pub answer-end : {q : ℕ} {u v : List ℕ} → Stored shift place (stride / 8) upper u lower v (readSteps (2 * (stride / 8)) (bitAt dc) (8 * at)) q
-        → record { number = 0; at = q; upper = u; lower = v } ≡ preview shift place stride upper lower dc at
+        → acceptance (record { number = 0; at = q; upper = u; lower = v }) ≡ previewTold (preview shift place stride upper lower dc at)
     unfolding preview
-    answer-end s = rw y (by-end shift place stride at upper lower (readSteps (2 * (stride / 8)) (bitAt dc) (8 * at)) (s .end) (s .above) (s .below))
+    answer-end s =
+        told-accepted (λ (k : Previewed). k .number)
+        (rw y (by-end shift place stride at upper lower (readSteps (2 * (stride / 8)) (bitAt dc) (8 * at)) (s .end) (s .above) (s .below)))
+        refl

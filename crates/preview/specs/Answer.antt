@@ -6,6 +6,7 @@ use lib.ListN.{length}
 use Rattle.ask.specs.Ask.{firstNo}
 use Rattle.calls.specs.Questions.{previewQuestions}
 use Rattle.calls.specs.Previews.{Previewed}
+use Rattle.calls.specs.Told.{Told, refusal, acceptance, told}
 use Rattle.calls.specs.declared.Shape.{Shape}
 use Rattle.calls.specs.declared.Stream.{Stream}
 use Rattle.acread.specs.declared.through.PlaneEnd.{PlaneEnd}
@@ -18,6 +19,9 @@ PreviewNumber shift h over under dc r =
     → r ≡ firstNo (previewQuestions shift (h .place) (h .stride) upper lower (dc .len) (dc .at))
 
 -- number, position and rows of an answer to a call that started at `at`: a refusal hands the start back
-abbrev pub previewSays : ℕ → PlaneEnd → List ℕ → List ℕ → Previewed
-previewSays at (plane.At q) upper lower = record { number = 0; at = q; upper = upper; lower = lower }
-previewSays at (plane.Refused n) upper lower = record { number = n; at = at; upper = upper; lower = lower }
+abbrev pub previewSays : ℕ → PlaneEnd → List ℕ → List ℕ → Told Previewed
+previewSays at (plane.At q) upper lower = acceptance (record { number = 0; at = q; upper = upper; lower = lower })
+previewSays at (plane.Refused n) upper lower = refusal (record { number = n; at = at; upper = upper; lower = lower })
+
+abbrev pub previewTold : Previewed → Told Previewed
+previewTold k = told (k .number) k

@@ -5,7 +5,7 @@ pub mod row;
 
 ghost use mathlib.Core.Path.{_≡_};
 ghost use Rattle.calls.specs.Previews.{preview};
-ghost use Rattle.preview.specs.Answer.{PreviewNumber, previewSays};
+ghost use Rattle.preview.specs.Answer.{PreviewNumber, previewSays, previewTold};
 use acread::through::PlaneEnd;
 use ask::numbers::NO_CODE;
 use ask::numbers::NO_PLANE;
@@ -40,7 +40,7 @@ pub fn preview(
     at: usize,
 ) -> PlaneEnd
     ensures { λ r. ⌜ previewSays at r (now (upper .exit)) (now (lower .exit))
-        ≡ preview shift (h .place) (h .stride) (now (upper .entry)) (now (lower .entry)) (now (dc .entry)) at ⌝ }
+        ≡ previewTold (preview shift (h .place) (h .stride) (now (upper .entry)) (now (lower .entry)) (now (dc .entry)) at) ⌝ }
 {
     let stream = Stream { len: dc.len(), at };
     let x = preview_number(shift, h, upper.len(), lower.len(), stream);

@@ -11,7 +11,7 @@ ghost use Rattle.bits.specs.Lay.{lay};
 ghost use Rattle.calls.specs.ReadPlane.{readBlocks};
 ghost use Rattle.calls.specs.Previews.{blockReport};
 ghost use Rattle.acread.specs.through.Through.{blockEnds, goodEnds, reportsOf, acEnd};
-ghost use Rattle.preview.specs.report.Report.{ReportNumber, reportSays};
+ghost use Rattle.preview.specs.report.Report.{ReportNumber, reportSays, reportTold};
 use acread::BlockEnd;
 use acread::through::PlaneEnd;
 use ask::numbers::NO_CODE;
@@ -56,7 +56,7 @@ fn report_number(stride: usize, room: usize, ac: Stream) -> u32
 
 // One byte a block in coding order: 1 where no AC symbol is read for it; and the byte where the plane's AC stream ends.
 pub fn block_report(stride: usize, report: &mut [u8], ac: &[u8], at: usize) -> PlaneEnd
-    ensures { λ r. ⌜ reportSays at r (now (report .exit)) ≡ blockReport stride (now (report .entry)) (now (ac .entry)) at ⌝ }
+    ensures { λ r. ⌜ reportSays at r (now (report .exit)) ≡ reportTold (blockReport stride (now (report .entry)) (now (ac .entry)) at) ⌝ }
 {
     let stream = Stream { len: ac.len(), at };
     let x = report_number(stride, report.len(), stream);

@@ -1,9 +1,11 @@
 // Frames that are built stream by stream. A record of 1,120 bytes (oracle/ANSWERS.md): the header's arguments, the streams
-// that are handed over, each call's number, and the frame as the Rust's `write` writes the streams accepted.
+// that are handed over, each call's number and whether the frame is complete after it, and the frame as the Rust's `write`
+// writes the streams accepted.
 use crate::frames::kind_of;
 use builder::Builder;
 use builder::HeaderAnswer;
 use builder::Shift;
+use builder::streams::CompleteAnswer;
 use builder::streams::StreamAnswer;
 use replay::Record;
 use replay::byte32;
@@ -19,7 +21,7 @@ pub const LENGTH: usize = 1120;
 fn repeated(b: &Record) -> [u8; 1024] {
     let mut r = [0u8; 1024];
     for k in 0..1024 {
-        r[k] = b[96 + k % 32];
+        r[k] = b[128 + k % 32];
     }
     r
 }
@@ -37,7 +39,30 @@ fn number_of(b: &Record, k: usize) -> u32 {
     if 7 < k {
         return 255;
     }
-    byte32(b[34 + 8 * k])
+    byte32(b[34 + 12 * k])
+}
+
+// What is said of the frame after the k-th stream: whether it is complete (1, 0), or a refusal's number.
+fn said_of(b: &Record, k: usize) -> u32 {
+    if 7 < k {
+        return 255;
+    }
+    byte32(b[35 + 12 * k])
+}
+
+// Width and height that the k-th stream is handed over with.
+fn width_of(b: &Record, k: usize) -> usize {
+    if 7 < k {
+        return 0;
+    }
+    size(b, 40 + 12 * k)
+}
+
+fn height_of(b: &Record, k: usize) -> usize {
+    if 7 < k {
+        return 0;
+    }
+    size(b, 42 + 12 * k)
 }
 
 // Hands over the k-th stream.
@@ -45,28 +70,43 @@ fn hand_over(b: &Record, bytes: &[u8], k: usize, s: Builder, out: &mut [u8]) -> 
     if 7 < k {
         return StreamAnswer::Refused(0, s);
     }
-    let kind = kind_of(b[32 + 8 * k] == 1);
-    let slice = wide(b[33 + 8 * k]);
-    let stream = part(bytes, size(b, 36 + 8 * k), size(b, 38 + 8 * k));
-    builder::streams::put_stream(s, kind, slice, stream, out)
+    let kind = kind_of(b[32 + 12 * k] == 1);
+    let slice = wide(b[33 + 12 * k]);
+    let stream = part(bytes, size(b, 36 + 12 * k), size(b, 38 + 12 * k));
+    let width = width_of(b, k);
+    let height = height_of(b, k);
+    builder::streams::put_stream(width, height, s, kind, slice, stream, out)
 }
 
-// The answer to the k-th stream: whether its number is the record's, and the state after it.
+// Whether the frame is complete after the k-th stream, as the record says it.
+fn completes(b: &Record, k: usize, ac_turn: bool, next: usize) -> bool {
+    let width = width_of(b, k);
+    let height = height_of(b, k);
+    match builder::streams::complete(width, height, ac_turn, next) {
+        CompleteAnswer::Complete(yes) => said_of(b, k) == (if yes { 1 } else { 0 }),
+        CompleteAnswer::Refused(x) => said_of(b, k) == x,
+    }
+}
+
+// The answer to the k-th stream: whether it is the record's, and the state after it.
 struct Handed {
     same: bool,
     state: Builder,
 }
 
+fn compared(b: &Record, k: usize, number: u32, state: Builder) -> Handed {
+    let ac_turn = state.ac_turn;
+    let next = state.next;
+    Handed {
+        same: number_of(b, k) == number && completes(b, k, ac_turn, next),
+        state,
+    }
+}
+
 fn step(b: &Record, bytes: &[u8], k: usize, s: Builder, out: &mut [u8]) -> Handed {
     match hand_over(b, bytes, k, s, out) {
-        StreamAnswer::Next(state) => Handed {
-            same: number_of(b, k) == 0,
-            state,
-        },
-        StreamAnswer::Refused(x, state) => Handed {
-            same: number_of(b, k) == x,
-            state,
-        },
+        StreamAnswer::Next(state) => compared(b, k, 0, state),
+        StreamAnswer::Refused(x, state) => compared(b, k, x, state),
     }
 }
 
@@ -119,5 +159,5 @@ pub fn holds(b: &Record) -> bool {
     let start = position(b, 16);
     let end = position(b, 24);
     let ok = frame(b, replay::cut(&mut out, size(b, 12)));
-    ok && replay::holds_stored(&out, b[7], start, end, part(b, 128, 992))
+    ok && replay::holds_stored(&out, b[7], start, end, part(b, 160, 960))
 }

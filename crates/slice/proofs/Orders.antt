@@ -1,41 +1,35 @@
--- The order of a coding call's questions: each call below has a "no" at its question and at all later ones, and is refused with that
--- question's number.
+-- The questions of the coding calls at their limits, and their order.
 use mathlib.Core.Path.{_≡_, refl}
-use mathlib.Core.List.{List, [], _∷_, map}
-use Prim.Native.Nat.{ℕ}
-use lib.ListN.{replicate}
+use mathlib.Core.Bool.{true}
+use mathlib.Core.List.{List, [], _∷_, _++_}
 use Rattle.ask.specs.Ask.{firstNo}
-use Rattle.calls.specs.Arguments.{Rows, oneSlice, onePlane}
-use Rattle.calls.proofs.Orders.{given, blank, calls, both}
+use Rattle.ask.proofs.AtLimits.{no, limits, holds}
+use Rattle.calls.proofs.Orders.{onPlane, onSlice, planeBroken, sliceBroken}
 use Rattle.slice.specs.Room.{codingQuestions}
 
-coding-order : map (λ c. firstNo (codingQuestions c (both 0 0) (both 16777216 16777216))) calls ≡ 1 ∷ 2 ∷ 3 ∷ 4 ∷ 5 ∷ 6 ∷ []
-unfolding calls given blank both firstNo codingQuestions
-coding-order = refl
+-- 8 and 394 bytes are room for the two blocks of a plane of stride 8, from the start on; starts end at 16,777,215, and a start after the
+-- buffer's end leaves no room
+coding-plane : holds (onPlane codingQuestions)
+    (limits (24 ∷ 15 ∷ 3 ∷ 8 ∷ 128 ∷ 8 ∷ 394 ∷ 0 ∷ 0 ∷ []) (planeBroken ++ (no 6 5 7 ∷ no 6 6 393 ∷ no 6 7 1 ∷ no 6 8 1 ∷ []))
+    ∷ limits (24 ∷ 15 ∷ 3 ∷ 8 ∷ 128 ∷ 108 ∷ 594 ∷ 100 ∷ 200 ∷ [])
+    (planeBroken ++ (no 6 5 107 ∷ no 6 6 593 ∷ no 6 7 101 ∷ no 6 8 201 ∷ no 6 7 109 ∷ no 6 8 595 ∷ no 6 7 16777216 ∷ no 6 8 16777216 ∷ []))
+    ∷ limits (0 ∷ 0 ∷ 0 ∷ 8 ∷ 129 ∷ 99999999 ∷ 99999999 ∷ 16777215 ∷ 16777215 ∷ [])
+    (planeBroken ++ (no 6 5 16777222 ∷ no 6 6 16777608 ∷ no 7 7 16777216 ∷ no 7 8 16777216 ∷ []))
+    ∷ limits (0 ∷ 0 ∷ 0 ∷ 8 ∷ 129 ∷ 16777223 ∷ 16777609 ∷ 16777215 ∷ 16777215 ∷ []) []
+    ∷ [])
+    ≡ true
+unfolding onPlane firstNo codingQuestions
+coding-plane = refl
 
--- 8 and 394 bytes of room are enough for two blocks, one byte less is not, and starts end at 16,777,215
-coding-limits : firstNo (codingQuestions (onePlane (given 0 0) (blank 0 8 128)) (both 8 394) (both 0 0))
-    ∷ firstNo (codingQuestions (onePlane (given 0 0) (blank 0 8 128)) (both 7 394) (both 0 0))
-    ∷ firstNo (codingQuestions (onePlane (given 0 0) (blank 0 8 128)) (both 8 393) (both 0 0))
-    ∷ firstNo (codingQuestions (onePlane (given 0 0) (blank 0 8 128)) (both 99999999 99999999) (both 16777215 16777215))
-    ∷ firstNo (codingQuestions (onePlane (given 0 0) (blank 0 8 128)) (both 99999999 99999999) (both 16777216 0))
-    ∷ firstNo (codingQuestions (onePlane (given 0 0) (blank 0 8 128)) (both 99999999 99999999) (both 0 16777216))
-    ∷ []
-    ≡ 0 ∷ 6 ∷ 6 ∷ 0 ∷ 7 ∷ 7 ∷ []
-unfolding given blank both firstNo codingQuestions
-coding-limits = refl
-
--- a slice: each question over all its planes before the next one; planes above the count are not asked
-rows : ℕ → ℕ → Rows
-rows stride samples = record { stride = stride; samples = replicate samples 0 }
-
-slice-order : firstNo (codingQuestions (oneSlice (given 0 0) 2 (rows 8 0) (rows 9 0) (rows 9 0) (rows 9 0)) (both 0 0) (both 0 0))
-    ∷ firstNo (codingQuestions (oneSlice (given 0 0) 2 (rows 8 128) (rows 8 127) (rows 9 0) (rows 9 0)) (both 0 0) (both 0 0))
-    ∷ firstNo (codingQuestions (oneSlice (given 0 0) 2 (rows 8 128) (rows 8 128) (rows 9 0) (rows 9 0)) (both 15 788) (both 0 0))
-    ∷ firstNo (codingQuestions (oneSlice (given 0 0) 2 (rows 8 128) (rows 8 128) (rows 9 0) (rows 9 0)) (both 16 788) (both 0 0))
-    ∷ firstNo (codingQuestions (oneSlice (given 0 0) 0 (rows 8 128) (rows 8 128) (rows 9 0) (rows 9 0)) (both 16 788) (both 0 0))
-    ∷ firstNo (codingQuestions (oneSlice (given 0 0) 5 (rows 8 128) (rows 8 128) (rows 8 128) (rows 8 128)) (both 99999 99999) (both 0 0))
-    ∷ []
-    ≡ 4 ∷ 5 ∷ 6 ∷ 0 ∷ 3 ∷ 3 ∷ []
-unfolding given rows both firstNo codingQuestions
-slice-order = refl
+-- the room of a slice is that of all its planes; planes above the count are not asked about
+coding-slice : holds (onSlice codingQuestions)
+    (limits (24 ∷ 15 ∷ 4 ∷ 8 ∷ 8 ∷ 8 ∷ 8 ∷ 128 ∷ 128 ∷ 128 ∷ 128 ∷ 132 ∷ 1776 ∷ 100 ∷ 200 ∷ [])
+    (sliceBroken ++ (no 6 11 131 ∷ no 6 12 1775 ∷ no 6 13 101 ∷ no 6 14 201 ∷ no 6 13 16777216 ∷ no 6 14 16777216 ∷ []))
+    ∷ limits (24 ∷ 15 ∷ 4 ∷ 8 ∷ 8 ∷ 8 ∷ 8 ∷ 128 ∷ 128 ∷ 128 ∷ 128 ∷ 99999999 ∷ 99999999 ∷ 16777215 ∷ 16777215 ∷ [])
+    (sliceBroken ++ (no 6 11 16777246 ∷ no 6 12 16778790 ∷ no 7 13 16777216 ∷ no 7 14 16777216 ∷ []))
+    ∷ limits (0 ∷ 0 ∷ 1 ∷ 8 ∷ 9 ∷ 8 ∷ 8 ∷ 128 ∷ 0 ∷ 0 ∷ 128 ∷ 8 ∷ 394 ∷ 0 ∷ 0 ∷ []) (no 4 2 2 ∷ no 6 11 7 ∷ [])
+    ∷ limits (0 ∷ 0 ∷ 2 ∷ 8 ∷ 8 ∷ 8 ∷ 9 ∷ 128 ∷ 128 ∷ 127 ∷ 128 ∷ 16 ∷ 788 ∷ 0 ∷ 0 ∷ []) (no 4 2 4 ∷ no 5 2 3 ∷ no 6 12 787 ∷ [])
+    ∷ [])
+    ≡ true
+unfolding onSlice firstNo codingQuestions
+coding-slice = refl

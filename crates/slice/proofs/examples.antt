@@ -1,3 +1,4 @@
 pub mod Samples
 pub mod Witness
 pub mod RustAnswers
+pub mod WitnessTen

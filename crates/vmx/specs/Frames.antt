@@ -10,9 +10,8 @@ use Rattle.views.specs.Table.{Views}
 use Rattle.outs.specs.frame.Outs.{isOn, flagOf, Handed, handedBy, FramePlaces, frameParts}
 
 -- the builder's state out of the numbers that the caller holds
-abbrev pub stateOf : ℕ → ℕ → ℕ → ℕ → ℕ → ℕ → Build
-stateOf slices maxDcLen maxAcLen acTurn next at =
-    record { slices = slices; maxDcLen = maxDcLen; maxAcLen = maxAcLen; acTurn = isOn acTurn; next = next; at = at }
+abbrev pub stateOf : ℕ → ℕ → ℕ → Build
+stateOf acTurn next at = record { acTurn = isOn acTurn; next = next; at = at }
 
 -- in which of the two pictures the slice's rows lie, and where
 pub record ShownAt : Type 0 where

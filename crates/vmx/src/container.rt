@@ -12,11 +12,11 @@ ghost use Rattle.parser.specs.Frame.{parseOf, viewOf};
 ghost use Rattle.views.specs.Table.{allViewsOf};
 ghost use Rattle.tables.specs.Quality.{qualityPreset};
 ghost use Rattle.builder.specs.Build.{headerOf};
-ghost use Rattle.builder.specs.streams.Put.{streamOf};
+ghost use Rattle.builder.specs.streams.Put.{streamOf, completeOf};
 ghost use Rattle.shown.specs.Shown.{timeOf};
 ghost use Rattle.outs.specs.frame.Outs.{isOn, flagOf, isImageRow, rowLeft, handed, handedBy};
 ghost use Rattle.outs.specs.frame.Outs.{layoutPlaces, layoutParts, framePlaces, frameParts, viewPlaces, viewParts, emptyPart};
-ghost use Rattle.outs.specs.frame.Outs.{startPlaces, startParts, putPlaces, putParts};
+ghost use Rattle.outs.specs.frame.Outs.{buildPlaces, buildParts};
 ghost use Rattle.vmx.specs.Frames.{stateOf, shownAt, shownPlaces, shownParts, nothingShown, streamsAs, streamsBy};
 
 // The geometry of a frame size: strides in samples, stream limits in bytes.
@@ -164,19 +164,14 @@ pub extern "C" fn vmx_frame_start(
     quality: u8,
     dc_shift: u32,
     out: &mut [u8],
-    slices: &mut usize,
-    max_dc_len: &mut usize,
-    max_ac_len: &mut usize,
     ac_turn: &mut u32,
     next: &mut usize,
     at: &mut usize,
 ) -> u32
     ensures { λ r. ⌜ handed r
-        (startPlaces (now (out .exit)) (now (slices .exit)) (now («max_dc_len» .exit)) (now («max_ac_len» .exit))
-        (now («ac_turn» .exit)) (now (next .exit)) (now (at .exit)))
-        ≡ handedBy (headerOf width height (isOn interlaced) quality «dc_shift» (now (out .entry)) (now (at .entry))) startParts
-        (startPlaces (now (out .entry)) (now (slices .entry)) (now («max_dc_len» .entry)) (now («max_ac_len» .entry))
-        (now («ac_turn» .entry)) (now (next .entry)) (now (at .entry))) ⌝ }
+        (buildPlaces (now (out .exit)) (now («ac_turn» .exit)) (now (next .exit)) (now (at .exit)))
+        ≡ handedBy (headerOf width height (isOn interlaced) quality «dc_shift» (now (out .entry)) (now (at .entry))) buildParts
+        (buildPlaces (now (out .entry)) (now («ac_turn» .entry)) (now (next .entry)) (now (at .entry))) ⌝ }
 {
     let start = *at;
     let r = builder::start_frame(
@@ -188,15 +183,14 @@ pub extern "C" fn vmx_frame_start(
         out,
         start,
     );
-    outs::frame::header_out(r, slices, max_dc_len, max_ac_len, ac_turn, next, at)
+    outs::frame::header_out(r, ac_turn, next, at)
 }
 
 // Puts the DC stream (ac 0) or the AC stream (any other) of a slice after what was written.
 #[no_mangle]
 pub extern "C" fn vmx_frame_put(
-    slices: usize,
-    max_dc_len: usize,
-    max_ac_len: usize,
+    width: usize,
+    height: usize,
     ac: u32,
     slice: usize,
     stream: &[u8],
@@ -206,25 +200,39 @@ pub extern "C" fn vmx_frame_put(
     at: &mut usize,
 ) -> u32
     ensures { λ r. ⌜ handed r
-        (putPlaces (now (out .exit)) (now («ac_turn» .exit)) (now (next .exit)) (now (at .exit)))
-        ≡ handedBy (streamOf (stateOf slices «max_dc_len» «max_ac_len» (now («ac_turn» .entry)) (now (next .entry)) (now (at .entry)))
-        (isOn ac) slice (now (stream .entry)) (now (out .entry))) putParts
-        (putPlaces (now (out .entry)) (now («ac_turn» .entry)) (now (next .entry)) (now (at .entry))) ⌝ }
+        (buildPlaces (now (out .exit)) (now («ac_turn» .exit)) (now (next .exit)) (now (at .exit)))
+        ≡ handedBy (streamOf width height (stateOf (now («ac_turn» .entry)) (now (next .entry)) (now (at .entry)))
+        (isOn ac) slice (now (stream .entry)) (now (out .entry))) buildParts
+        (buildPlaces (now (out .entry)) (now («ac_turn» .entry)) (now (next .entry)) (now (at .entry))) ⌝ }
 {
     let kind = outs::frame::kind_of(ac);
     let turn = 0 < *ac_turn;
     let first = *next;
     let start = *at;
     let b = Builder {
-        slices,
-        max_dc_len,
-        max_ac_len,
         ac_turn: turn,
         next: first,
         at: start,
     };
-    let r = builder::streams::put_stream(b, kind, slice, stream, out);
+    let r = builder::streams::put_stream(width, height, b, kind, slice, stream, out);
     outs::frame::stream_out(r, ac_turn, next, at)
+}
+
+// Whether the frame is complete (1) or not (0), by whose turn it is: all DC streams are there, and the AC streams of all
+// slices or of none.
+#[no_mangle]
+pub extern "C" fn vmx_frame_complete(
+    width: usize,
+    height: usize,
+    ac_turn: u32,
+    next: usize,
+    complete: &mut u32,
+) -> u32
+    ensures { λ r. ⌜ handed r (now (complete .exit))
+        ≡ handedBy (completeOf width height (isOn «ac_turn») next) flagOf (now (complete .entry)) ⌝ }
+{
+    let r = builder::streams::complete(width, height, 0 < ac_turn, next);
+    outs::frame::complete_out(r, complete)
 }
 
 // In which of two pictures of so many samples the slice's sixteen rows lie (1 the new one, 0 the held one), and where.

@@ -1,6 +1,6 @@
 //! Records of 1,120 bytes: a header and streams handed to the builder, the number
-//! that each call is answered with, and the frame, as `write` writes the streams
-//! that are accepted.
+//! that each call is answered with, whether the frame is complete after it, and the
+//! frame, as `write` writes the streams that are accepted.
 
 use super::record;
 use crate::gen::Rng;
@@ -12,15 +12,24 @@ const STREAMS: usize = 8;
 /// The bytes that streams are taken from, repeated until 1,024 are there.
 const POOL: usize = 32;
 /// The longest frame of a record.
-const FRAME: usize = 992;
+const FRAME: usize = 960;
 
-/// A stream that is handed over: its kind, its slice, its part of the repeated bytes.
+/// A stream that is handed over: its kind, its slice, its part of the repeated bytes, width and height of the call.
 #[derive(Clone, Copy)]
 struct Stream {
     ac: bool,
     slice: usize,
     at: usize,
     len: usize,
+    size: (usize, usize),
+}
+
+/// The builder's state, as the model holds it.
+#[derive(Clone, Copy)]
+struct State {
+    ac_turn: bool,
+    next: usize,
+    at: usize,
 }
 
 /// The calls that build a frame into a buffer of `room` bytes, from `at` on.
@@ -59,6 +68,7 @@ pub fn list(rng: &mut Rng) -> (Vec<u8>, usize) {
     for _ in 0..24 {
         out_of_turn(&mut out, rng);
     }
+    sizes(&mut out, rng);
     headers(&mut out, rng);
     let count = out.len() / RECORD;
     (out, count)
@@ -70,7 +80,7 @@ fn calls(rng: &mut Rng, width: usize, height: usize, shift: Option<u32>, with_ac
     let mut streams = vec![];
     for ac in [false, true] {
         for slice in 0..if ac && !with_ac { 0 } else { slices } {
-            streams.push(Stream { ac, slice, at: rng.below(POOL), len: rng.below(20) });
+            streams.push(Stream { ac, slice, at: rng.below(POOL), len: rng.below(20), size: (width, height) });
         }
     }
     Calls {
@@ -122,11 +132,39 @@ fn out_of_turn(out: &mut Vec<u8>, rng: &mut Rng) {
             slice: rng.pick(&[0, 0, 1, 2, 255]),
             at: rng.below(POOL),
             len: rng.pick(&[0, 5, 513, 897, 990]),
+            size: (16, height),
         };
         let k = rng.below(c.streams.len() + 1);
         c.streams.insert(k, wrong);
     }
     put(out, rng, &c);
+}
+
+/// Streams handed over with sizes that no frame has, alone and where 6, 13 or 14 is asked too, and with other sizes than the
+/// header's, whose limits and slice count then hold; each before the frame's own.
+fn sizes(out: &mut Vec<u8>, rng: &mut Rng) {
+    for size in [(15, 32), (14, 32), (7682, 32), (16, 15), (16, 4321), (0, 0), (65535, 65535)] {
+        for (slice, len) in [(0, 3), (0, 513), (1, 3), (2, 513), (0, 1020)] {
+            let mut c = calls(rng, 16, 32, None, true);
+            let k = rng.below(c.streams.len() + 1);
+            c.streams.insert(k, Stream { ac: k > 1, slice, at: rng.below(POOL), len, size });
+            put(out, rng, &c);
+        }
+    }
+    // The DC limit of width 16 is 512 bytes, of width 24 768; the AC limits are 896 and 1,344.
+    for (width, len) in [(16, 513), (18, 513), (24, 768), (24, 769), (26, 769), (16, 800)] {
+        let mut c = calls(rng, 16, 16, None, true);
+        (c.streams[0].size.0, c.streams[0].len) = (width, len);
+        put(out, rng, &c);
+    }
+    // After one DC stream of two the frame is complete for a height of one slice, and the other way round.
+    for (header, height) in [(32, 16), (16, 32), (48, 32), (32, 48), (32, 4320)] {
+        let mut c = calls(rng, 16, header, None, true);
+        for s in &mut c.streams {
+            s.size.1 = if rng.once_in(3) { header } else { height };
+        }
+        put(out, rng, &c);
+    }
 }
 
 /// The header's questions 2, 6 and 9, alone and together.
@@ -165,45 +203,63 @@ fn header_number(c: &Calls) -> u32 {
     }
 }
 
-/// Each stream's number, by document 01's order, and the frame of those that are accepted.
-fn answers(c: &Calls, pool: &[u8]) -> (Vec<u32>, Vec<u8>) {
-    let l = Layout::new(c.width, c.height).unwrap();
-    let n = l.slices();
-    let (mut dc, mut ac): (Vec<Vec<u8>>, Vec<Vec<u8>>) = (vec![], vec![]);
-    // What `write` makes of the streams so far: the rest of its frame, of empty streams, is cut off.
-    let frame = |dc: &[Vec<u8>], ac: &[Vec<u8>]| {
-        let padded =
-            |s: &[Vec<u8>]| -> Vec<Vec<u8>> { (0..n).map(|k| s.get(k).cloned().unwrap_or_default()).collect() };
-        let mut f = write(&l, c.interlaced, c.quality as i32, c.shift.unwrap_or(0), &padded(dc), &padded(ac));
-        f.truncate(f.len() - 4 * (2 * n - dc.len() - ac.len()));
-        f
+/// A stream's number, by document 01's order, and the state after it.
+fn answer(room: usize, s: &Stream, b: State) -> (u32, State) {
+    if !fits(room, b.at, 4 + s.len) {
+        return (6, b);
+    }
+    let l = match Layout::new(s.size.0, s.size.1) {
+        Ok(l) => l,
+        Err(e) => return (number(e), b),
     };
-    let mut numbers = vec![];
+    if s.len > if s.ac { l.max_ac_len() } else { l.max_dc_len() } {
+        return (13, b);
+    }
+    if s.slice >= l.slices() || s.ac != b.ac_turn || s.slice != b.next {
+        return (14, b);
+    }
+    let last_dc = !s.ac && s.slice + 1 == l.slices();
+    let next = if last_dc { 0 } else { s.slice + 1 };
+    (0, State { ac_turn: s.ac || last_dc, next, at: b.at + 4 + s.len })
+}
+
+/// Whether the frame is complete, 1 or 0, or the number that this is refused with.
+fn complete((width, height): (usize, usize), b: State) -> u32 {
+    Layout::new(width, height).map_or_else(number, |l| (b.ac_turn && (b.next == 0 || b.next == l.slices())) as u32)
+}
+
+/// Each stream's number and whether the frame is complete after it, and the frame of those that are accepted.
+fn answers(c: &Calls, pool: &[u8]) -> (Vec<(u32, u32)>, Vec<u8>) {
+    let l = Layout::new(c.width, c.height).unwrap();
+    let (mut dc, mut ac): (Vec<Vec<u8>>, Vec<Vec<u8>>) = (vec![], vec![]);
+    let empty = vec![vec![]; l.slices()];
+    let mut frame = write(&l, c.interlaced, c.quality as i32, c.shift.unwrap_or(0), &empty, &[]);
+    frame.truncate(header_len(c));
+    let mut state = State { ac_turn: false, next: 0, at: c.at + frame.len() };
+    let mut told = vec![];
     for s in &c.streams {
-        let at = c.at + frame(&dc, &ac).len();
-        let (limit, turn) = if s.ac { (l.max_ac_len(), ac.len()) } else { (l.max_dc_len(), dc.len()) };
-        let number = if !fits(c.room, at, 4 + s.len) {
-            6
-        } else if s.len > limit {
-            13
-        } else if s.slice >= n || s.ac != (dc.len() == n) || s.slice != turn {
-            14
-        } else {
-            0
-        };
+        let (number, after) = answer(c.room, s, state);
+        state = after;
         if number == 0 {
-            let bytes = (0..s.len).map(|k| pool[(s.at + k) % POOL]).collect();
+            let bytes: Vec<u8> = (0..s.len).map(|k| pool[(s.at + k) % POOL]).collect();
+            frame.extend((s.len as u32).to_le_bytes());
+            frame.extend(&bytes);
             if s.ac { &mut ac } else { &mut dc }.push(bytes);
         }
-        numbers.push(number);
+        told.push((number, complete(s.size, state)));
     }
-    (numbers, frame(&dc, &ac))
+    let whole = dc.len() == l.slices() && (ac.is_empty() || ac.len() == l.slices());
+    if whole {
+        let by_rust = write(&l, c.interlaced, c.quality as i32, c.shift.unwrap_or(0), &dc, &ac);
+        assert_eq!(frame, by_rust, "the model's frame is the Rust's");
+    }
+    (told, frame)
 }
 
 fn put(out: &mut Vec<u8>, rng: &mut Rng, c: &Calls) {
     let pool = rng.bytes(POOL);
     let header = header_number(c);
-    let (numbers, frame) = if header == 0 { answers(c, &pool) } else { (vec![0; c.streams.len()], vec![]) };
+    let (told, frame) = if header == 0 { answers(c, &pool) } else { (vec![(0, 0); c.streams.len()], vec![]) };
     let short = |out: &mut Vec<u8>, n: usize| out.extend(u16::try_from(n).unwrap().to_le_bytes());
     short(out, c.width);
     short(out, c.height);
@@ -215,12 +271,14 @@ fn put(out: &mut Vec<u8>, rng: &mut Rng, c: &Calls) {
     out.extend((c.at as u64).to_le_bytes());
     out.extend((c.at.wrapping_add(frame.len()) as u64).to_le_bytes());
     let mut table = vec![];
-    for (s, number) in c.streams.iter().zip(numbers) {
-        table.extend([s.ac as u8, s.slice as u8, number as u8, 0]);
+    for (s, (number, complete)) in c.streams.iter().zip(told) {
+        table.extend([s.ac as u8, s.slice as u8, number as u8, complete as u8]);
         short(&mut table, s.at);
         short(&mut table, s.len);
+        short(&mut table, s.size.0);
+        short(&mut table, s.size.1);
     }
-    record::bytes(out, &table, 8 * STREAMS);
+    record::bytes(out, &table, 12 * STREAMS);
     out.extend(pool);
     record::bytes(out, &frame, FRAME);
 }

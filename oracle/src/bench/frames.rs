@@ -63,7 +63,7 @@ impl Frame {
         let mut state = ours::builder::start(SIZE, false, 90, 0, black_box(&mut self.bytes), self.before).unwrap();
         for (is_ac, streams) in [(false, &self.dc), (true, &self.ac)] {
             for (slice, s) in streams.iter().enumerate() {
-                assert_eq!(ours::builder::stream(&mut state, is_ac, slice, s, &mut self.bytes), 0);
+                assert_eq!(ours::builder::stream(SIZE, &mut state, is_ac, slice, s, &mut self.bytes), 0);
             }
         }
     }

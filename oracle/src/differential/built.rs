@@ -14,7 +14,7 @@ pub fn run(run: &mut Run) {
     while run.more() {
         for _ in 0..20 {
             built(run);
-            out_of_turn(run);
+            any_stream(run);
             header_refused(run);
             rows(run);
         }
@@ -28,7 +28,8 @@ fn turns(p: &Parts) -> Vec<(bool, usize, &Vec<u8>)> {
     dc.chain(ac).collect()
 }
 
-/// A frame built whole is `write`'s; a stream past its limit is refused, which `write` does not.
+/// A frame built whole is `write`'s, complete after its last DC stream and after its last AC stream and at no other call; a
+/// stream past its limit is refused, which `write` does not.
 fn built(run: &mut Run) {
     let kind = run.report.kind("frames: built, as write writes them");
     let limits = run.report.kind("frames: streams past their limit refused by the builder");
@@ -44,11 +45,12 @@ fn built(run: &mut Run) {
         Ok(state) => state,
         Err(x) => return run.report.check(kind, false, 0, || format!("header refused with {x}: {p:?}")),
     };
+    run.report.same(kind, &builder::complete(size, &state), &Ok(false), 0, || format!("after the header: {p:?}"));
     let mut whole = true;
     for (ac, slice, bytes) in turns(&p) {
         let limit = if ac { l.max_ac_len() } else { l.max_dc_len() };
         let (was, held) = (state, out.clone());
-        let number = builder::stream(&mut state, ac, slice, bytes, &mut out);
+        let number = builder::stream(size, &mut state, ac, slice, bytes, &mut out);
         if bytes.len() > limit {
             whole = false;
             run.report.same(limits, &(number, state, &out), &(NO_LIMIT, was, &held), bytes.len(), || {
@@ -59,58 +61,75 @@ fn built(run: &mut Run) {
         if number != 0 {
             return run.report.check(kind, false, bytes.len(), || format!("stream refused with {number}: {p:?}"));
         }
+        let last = slice + 1 == l.slices();
+        run.report
+            .same(kind, &builder::complete(size, &state), &Ok(last), 0, || format!("ac {ac} slice {slice}: {p:?}"));
     }
     if whole {
         let mut wanted = before;
         wanted[at..at + frame.len()].copy_from_slice(&frame);
-        run.report.same(kind, &(out, state[5]), &(wanted, at + frame.len()), frame.len(), || format!("{p:?}"));
+        run.report.same(kind, &(out, state.at), &(wanted, at + frame.len()), frame.len(), || format!("{p:?}"));
         // Complete: anything more is out of turn. Without AC, its first stream would still be in turn.
         let mut full = frame.clone();
         full.extend([0; 8]);
         let done = if p.ac.is_empty() { (false, 0) } else { (true, l.slices()) };
-        let mut s = state;
-        s[5] = 0;
+        let mut s = State { at: 0, ..state };
         let held = s;
-        let found = builder::stream(&mut s, done.0, done.1, &[], &mut full);
+        let found = builder::stream(size, &mut s, done.0, done.1, &[], &mut full);
         run.report.same(kind, &(found, s), &(NO_TURN, held), 0, || format!("after the last stream: {p:?}"));
     }
 }
 
-/// Wrong kind, wrong slice, no room: the first no in document 01's order 6, 13, 14.
-fn out_of_turn(run: &mut Run) {
-    let kind = run.report.kind("frames: builder's streams refused, 6, 13, 14");
+/// Whether `n` bytes fit behind `at`.
+fn fits(room: usize, at: usize, n: usize) -> bool {
+    room.checked_sub(at).is_some_and(|left| left >= n)
+}
+
+/// A stream that is handed over with any state and any size, whatever the frame was begun with: the first no in document
+/// 01's order 6, 9, 13, 14. The limits are those of the call's width, the slice count that of its height.
+fn any_stream(run: &mut Run) {
+    let kind = run.report.kind("frames: builder's streams, any state and size, 6, 9, 13, 14");
     let rng = &mut run.rng;
-    let (width, height) = (16, rng.between(16, 60));
-    let l = Layout::new(width, height).unwrap();
-    let mut state: State = [l.slices(), l.max_dc_len(), l.max_ac_len(), rng.below(2), rng.below(l.slices()), 0];
-    let (ac, slice) = (rng.once_in(2), if rng.once_in(2) { state[4] } else { any_slice(rng, l.slices()) });
-    let limit = if ac { l.max_ac_len() } else { l.max_dc_len() };
-    let len = rng.pick(&[0, 3, limit, limit + 1]);
+    let size = if rng.once_in(3) { frames::any_dimensions(rng) } else { (16 + 2 * rng.below(9), rng.between(16, 60)) };
+    let l = Layout::new(size.0, size.1).map_err(number);
+    let slices = l.as_ref().map_or(3, |l| l.slices());
+    let ac = rng.once_in(2);
+    let limit = l.as_ref().map_or(512, |l| if ac { l.max_ac_len() } else { l.max_dc_len() });
+    let other = l.as_ref().map_or(896, |l| if ac { l.max_dc_len() } else { l.max_ac_len() });
+    let ac_turn = if rng.once_in(2) { ac as u32 } else { rng.pick(&[0, 1, 2, u32::MAX]) };
+    let mut state = State { ac_turn, next: any_slice(rng, slices), at: rng.below(3) };
+    let slice = if rng.once_in(3) { any_slice(rng, slices) } else { state.next };
+    let len = rng.pick(&[0, 3, limit, limit + 1, other, other + 1]);
     let room = len + 4;
-    let n = if rng.once_in(3) { rng.below(room) } else { room + rng.below(3) };
-    state[5] = rng.below(3);
-    let at = state[5];
+    let n = if rng.once_in(4) { rng.below(room) } else { room + rng.below(6) };
+    let at = state.at;
     let bytes = rng.bytes(len);
     let before = rng.bytes(n);
     let mut out = before.clone();
-    let in_turn = slice == state[4] && (ac == (state[3] == 1)) && slice < l.slices();
-    let number = if n.checked_sub(at).is_none_or(|left| left < room) {
+    let number = if !fits(n, at, room) {
         NO_ROOM
+    } else if let Err(x) = l {
+        x
     } else if len > limit {
         NO_LIMIT
-    } else if !in_turn {
+    } else if slice >= slices || slice != state.next || ac != (ac_turn > 0) {
         NO_TURN
     } else {
         0
     };
+    let (mut wanted, held) = (before, state);
+    let mut moved = held;
     if number == 0 {
-        return;
+        wanted[at..at + 4].copy_from_slice(&(len as u32).to_le_bytes());
+        wanted[at + 4..at + room].copy_from_slice(&bytes);
+        let turns = !ac && slice + 1 == slices;
+        moved = State { ac_turn: (ac || turns) as u32, next: if turns { 0 } else { slice + 1 }, at: at + room };
     }
-    let held = state;
-    let found = builder::stream(&mut state, ac, slice, &bytes, &mut out);
-    run.report.same(kind, &(found, state, &out), &(number, held, &before), len, || {
-        format!("state {held:?} ac {ac} slice {slice} of {len} bytes into {n}")
-    });
+    let found = builder::stream(size, &mut state, ac, slice, &bytes, &mut out);
+    let text = || format!("{size:?} state {held:?} ac {ac} slice {slice} of {len} bytes into {n}");
+    run.report.same(kind, &(found, state, &out), &(number, moved, &wanted), len, text);
+    let complete = l.map(|_| state.ac_turn > 0 && (state.next == 0 || state.next == slices));
+    run.report.same(kind, &builder::complete(size, &state), &complete, 0, text);
 }
 
 fn any_slice(rng: &mut Rng, slices: usize) -> usize {
@@ -136,7 +155,7 @@ fn header_refused(run: &mut Run) {
     let header = if shift > 0 { 5 } else { 3 };
     let wanted = if shift > SHIFT_MAX {
         NO_SHIFT
-    } else if n.checked_sub(at).is_none_or(|left| left < header) {
+    } else if !fits(n, at, header) {
         NO_ROOM
     } else if let Err(e) = Layout::new(size.0, size.1) {
         number(e)

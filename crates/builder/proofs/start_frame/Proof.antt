@@ -10,6 +10,7 @@ use Rattle.ask.specs.Ask.{accepted, firstNo}
 use Rattle.bits.specs.Lay.{lay}
 use Rattle.bits.proofs.LayLaw.{lay-length}
 use Rattle.layout.specs.Views.{isAc}
+use Rattle.layout.proofs.Laws.{sized}
 use Rattle.builder.specs.Build.{Build, Built, headerSize, headerBytes, started, startQuestions}
 use Rattle.builder.specs.Views.{builderSays, shiftSays}
 use Rattle.builder.proofs.Laws.{starts, Starts, starts-at, header-no, header-yes, frame-built}
@@ -43,29 +44,11 @@ slice-count-requires c κs =
     let s = h .before in
     let a = s .before .before .args in
     let g = starts-at (a .width) (a .height) (length (a .out .now)) (a .at) (s .shift-of .ensures) (h .start-number .ensures) (e .if1 .left) in
-    g .high
-
-max-dc-len-requires : tie.Need-max-dc-len-requires
-max-dc-len-requires c κs =
-    let e = c .before .before in
-    let h = e .before in
-    let s = h .before in
-    let a = s .before .before .args in
-    let g = starts-at (a .width) (a .height) (length (a .out .now)) (a .at) (s .shift-of .ensures) (h .start-number .ensures) (e .if1 .left) in
-    g .wide
-
-max-ac-len-requires : tie.Need-max-ac-len-requires
-max-ac-len-requires c κs =
-    let e = c .before .before .before in
-    let h = e .before in
-    let s = h .before in
-    let a = s .before .before .args in
-    let g = starts-at (a .width) (a .height) (length (a .out .now)) (a .at) (s .shift-of .ensures) (h .start-number .ensures) (e .if1 .left) in
-    g .wide
+    sized (a .width) (a .height) (g .size) .high
 
 put-header-requires : tie.Need-put-header-requires
 put-header-requires c κs =
-    let e = c .before .before .before .before .before in
+    let e = c .before .before .before in
     let h = e .before in
     let s = h .before in
     let a = s .before .before .args in
@@ -75,9 +58,7 @@ put-header-requires c κs =
 returns-2 : tie.Need-returns-2
 returns-2 c =
     let p = c .before .before in
-    let z = p .before .before in
-    let y = z .before in
-    let x = y .before in
+    let x = p .before .before in
     let k = x .before in
     let e = k .before in
     let h = e .before in
@@ -86,8 +67,7 @@ returns-2 c =
     let n : h .start-number .result ≡ 0 = omega (arith, e .if1 .left) in
     header-yes (a .width) (a .height) (a .interlaced) (a .quality) (shiftSays (a .shift)) (a .out .now) (a .at)
     (sym (h .start-number .ensures ∙ ap (λ m. firstNo (startQuestions (a .width) (a .height) m (length (a .out .now)) (a .at))) (s .shift-of .ensures)) ∙ n)
-    ∙ frame-built (a .width) (a .height) (a .interlaced) (a .quality) (a .out .now) (a .at) (s .shift-of .ensures) (x .slice-count .ensures) (y .max-dc-len .ensures) (z .max-ac-len .ensures)
-    (k .header-size .ensures .0) (p .put-header .ensures)
+    ∙ frame-built (a .height) (a .interlaced) (a .quality) (a .out .now) (a .at) (s .shift-of .ensures) (x .slice-count .ensures) (k .header-size .ensures .0) (p .put-header .ensures)
 
 pub start-frame-spec : {M : Type 1} → statement M
 start-frame-spec =
@@ -99,8 +79,6 @@ start-frame-spec =
     (λ c κs. search needs)
     add-end
     slice-count-requires
-    max-dc-len-requires
-    max-ac-len-requires
     (λ c. search needs)
     put-header-requires
     (λ c. search needs)

@@ -92,34 +92,15 @@ viewParts v = viewPlaces (v .offset) (v .size)
 abbrev pub emptyPart : ViewPlaces
 emptyPart = viewPlaces 0 0
 
--- a frame's header, written: the buffer, and the builder's state
-pub record StartPlaces : Type 0 where
-  pub out : List ℕ
-  pub slices : ℕ
-  pub maxDcLen : ℕ
-  pub maxAcLen : ℕ
-  pub acTurn : ℕ
-  pub next : ℕ
-  pub at : ℕ
-
-abbrev pub startPlaces : List ℕ → ℕ → ℕ → ℕ → ℕ → ℕ → ℕ → StartPlaces
-startPlaces out slices dc ac turn next at =
-    record { out = out; slices = slices; maxDcLen = dc; maxAcLen = ac; acTurn = turn; next = next; at = at }
-
-abbrev pub startParts : Built → StartPlaces
-startParts b =
-    let s = b .state in
-    startPlaces (b .bytes) (s .slices) (s .maxDcLen) (s .maxAcLen) (flagOf (s .acTurn)) (s .next) (s .at)
-
--- a stream that is put: the buffer, and what moves in the builder's state
-pub record PutPlaces : Type 0 where
+-- a frame that is built: the buffer, and the builder's state
+pub record BuildPlaces : Type 0 where
   pub out : List ℕ
   pub acTurn : ℕ
   pub next : ℕ
   pub at : ℕ
 
-abbrev pub putPlaces : List ℕ → ℕ → ℕ → ℕ → PutPlaces
-putPlaces out turn next at = record { out = out; acTurn = turn; next = next; at = at }
+abbrev pub buildPlaces : List ℕ → ℕ → ℕ → ℕ → BuildPlaces
+buildPlaces out turn next at = record { out = out; acTurn = turn; next = next; at = at }
 
-abbrev pub putParts : Built → PutPlaces
-putParts b = let s = b .state in putPlaces (b .bytes) (flagOf (s .acTurn)) (s .next) (s .at)
+abbrev pub buildParts : Built → BuildPlaces
+buildParts b = let s = b .state in buildPlaces (b .bytes) (flagOf (s .acTurn)) (s .next) (s .at)

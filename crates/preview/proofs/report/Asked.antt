@@ -1,5 +1,5 @@
 -- What the questions of the block report leave, and the answer that they lead to.
-use mathlib.Core.Path.{_≡_, ap}
+use mathlib.Core.Path.{_≡_, refl, ap}
 use mathlib.Core.Bool.{_&&_}
 use mathlib.Core.List.{List}
 use Prim.Native.Nat.{ℕ, zero, suc, _*_, _/_, _≤_, _<_}
@@ -17,8 +17,11 @@ use Rattle.calls.specs.ReadPlane.{Blocks, badBlocks, blocks, readBlocks}
 use Rattle.calls.specs.Grid.{blocksOf}
 use Rattle.calls.specs.Questions.{reportQuestions}
 use Rattle.calls.specs.Previews.{Reported, reportedBy, blockReport}
+use Rattle.calls.specs.Told.{refusal, acceptance}
+use Rattle.calls.proofs.Told.{told-refused, told-accepted}
 use Rattle.calls.proofs.Legal.{stride-legal}
 use Rattle.acread.specs.through.Through.{reportsOf, acEnd}
+use Rattle.preview.specs.report.Report.{reportTold}
 
 -- every answer is yes
 pub record Yes (stride : ℕ) (report : List ℕ) (at : ℕ) : Type 0 where
@@ -43,8 +46,8 @@ by-number : (m at : ℕ) (report : List ℕ) (x : Blocks) {n : ℕ} → n ≡ m 
 by-number zero at report x e h = absurd (omega arith)
 by-number (suc m) at report x e h = ap (λ (k : ℕ). record { number = k; at = at; report = report }) e
 
-by-bad : (at : ℕ) (report : List ℕ) (x : Blocks) {n : ℕ} → refused n ≡ acEnd x → record { number = n; at = at; report = report } ≡ reportedBy 0 at report x
-by-bad at report badBlocks {n} e = let g : n ≡ noCode = cc in ap (λ (k : ℕ). record { number = k; at = at; report = report }) g
+by-bad : (at : ℕ) (report : List ℕ) (x : Blocks) → refused noCode ≡ acEnd x → record { number = noCode; at = at; report = report } ≡ reportedBy 0 at report x
+by-bad at report badBlocks e = refl
 by-bad at report (blocks bs q r) e = absurd (let k : _≡_ {A = ℕ} 0 1 = cc in omega arith)
 
 by-end : (at : ℕ) (report : List ℕ) (x : Blocks) {q : ℕ} {l : List ℕ} → accepted q ≡ acEnd x → l ≡ lay report 0 (reportsOf x)
@@ -53,16 +56,18 @@ by-end at report badBlocks e f = absurd (let k : _≡_ {A = ℕ} 0 1 = cc in ome
 by-end at report (blocks bs a b) {q} {l} e f = cc
 
 module _ (stride : ℕ) (report ac : List ℕ) (at : ℕ) where
-  pub answer-no : {n : ℕ} → n ≡ firstNo (reportQuestions stride report (length ac) at) → 0 < n → record { number = n; at = at; report = report } ≡ blockReport stride report ac at
+  pub answer-no : {n : ℕ} → n ≡ firstNo (reportQuestions stride report (length ac) at) → 0 < n
+      → refusal (record { number = n; at = at; report = report }) ≡ reportTold (blockReport stride report ac at)
   unfolding blockReport
-  answer-no e h = by-number _ at report (readBlocks (blocksOf stride) (bitAt ac) (8 * at) 0) e h
+  answer-no e h = told-refused (λ (k : Reported). k .number) (by-number _ at report (readBlocks (blocksOf stride) (bitAt ac) (8 * at) 0) e h) h
 
   module _ (y : firstNo (reportQuestions stride report (length ac) at) ≡ 0) where
-    pub answer-bad : {n : ℕ} → refused n ≡ acEnd (readBlocks (2 * (stride / 8)) (bitAt ac) (8 * at) 0) → record { number = n; at = at; report = report } ≡ blockReport stride report ac at
+    pub answer-bad : refused noCode ≡ acEnd (readBlocks (2 * (stride / 8)) (bitAt ac) (8 * at) 0)
+        → refusal (record { number = noCode; at = at; report = report }) ≡ reportTold (blockReport stride report ac at)
     unfolding blockReport
-    answer-bad e = rw y (by-bad at report (readBlocks (2 * (stride / 8)) (bitAt ac) (8 * at) 0) e)
+    answer-bad e = told-refused (λ (k : Reported). k .number) (rw y (by-bad at report (readBlocks (2 * (stride / 8)) (bitAt ac) (8 * at) 0) e)) (omega arith)
 
     pub answer-end : {q : ℕ} {l : List ℕ} → accepted q ≡ acEnd (readBlocks (2 * (stride / 8)) (bitAt ac) (8 * at) 0)
-        → l ≡ lay report 0 (reportsOf (readBlocks (2 * (stride / 8)) (bitAt ac) (8 * at) 0)) → record { number = 0; at = q; report = l } ≡ blockReport stride report ac at
+        → l ≡ lay report 0 (reportsOf (readBlocks (2 * (stride / 8)) (bitAt ac) (8 * at) 0)) → acceptance (record { number = 0; at = q; report = l }) ≡ reportTold (blockReport stride report ac at)
     unfolding blockReport
-    answer-end e f = rw y (by-end at report (readBlocks (2 * (stride / 8)) (bitAt ac) (8 * at) 0) e f)
+    answer-end e f = told-accepted (λ (k : Reported). k .number) (rw y (by-end at report (readBlocks (2 * (stride / 8)) (bitAt ac) (8 * at) 0) e f)) refl

@@ -6,6 +6,7 @@ use lib.ListN.{length}
 use Rattle.ask.specs.Ask.{firstNo}
 use Rattle.calls.specs.Questions.{reportQuestions}
 use Rattle.calls.specs.Previews.{Reported}
+use Rattle.calls.specs.Told.{Told, refusal, acceptance, told}
 use Rattle.calls.specs.declared.Stream.{Stream}
 use Rattle.acread.specs.declared.through.PlaneEnd.{PlaneEnd}
 use Rattle.acread.specs.declared.through.PlaneEnd.the-variants as plane
@@ -15,6 +16,9 @@ abbrev pub ReportNumber : ℕ → ℕ → Stream → ℕ → Type 0
 ReportNumber stride room ac r = (report : List ℕ) → length report ≡ room → r ≡ firstNo (reportQuestions stride report (ac .len) (ac .at))
 
 -- number, position and report of an answer to a call that started at `at`: a refusal hands the start back
-abbrev pub reportSays : ℕ → PlaneEnd → List ℕ → Reported
-reportSays at (plane.At q) l = record { number = 0; at = q; report = l }
-reportSays at (plane.Refused n) l = record { number = n; at = at; report = l }
+abbrev pub reportSays : ℕ → PlaneEnd → List ℕ → Told Reported
+reportSays at (plane.At q) l = acceptance (record { number = 0; at = q; report = l })
+reportSays at (plane.Refused n) l = refusal (record { number = n; at = at; report = l })
+
+abbrev pub reportTold : Reported → Told Reported
+reportTold k = told (k .number) k

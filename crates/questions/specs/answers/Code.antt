@@ -5,9 +5,13 @@ use Rattle.slice.specs.Calls.{Coded}
 use Rattle.questions.specs.declared.answers.CodeAnswer.{CodeAnswer}
 use Rattle.questions.specs.declared.answers.CodeAnswer.the-variants.{Refused, Accepted}
 use Rattle.calls.specs.Arguments.{buffers}
+use Rattle.calls.specs.Told.{Told, refusal, acceptance, told}
 use Rattle.calls.specs.Views.{positionsBy}
 
 -- document 01's number and positions of an answer, with both buffers as they are now
-abbrev pub codeSays : CodeAnswer → List ℕ → List ℕ → Coded
-codeSays (Refused n at) dcs acs = record { number = n; at = positionsBy at; buffers = buffers dcs acs }
-codeSays (Accepted at) dcs acs = record { number = 0; at = positionsBy at; buffers = buffers dcs acs }
+abbrev pub codeSays : CodeAnswer → List ℕ → List ℕ → Told Coded
+codeSays (Refused n at) dcs acs = refusal (record { number = n; at = positionsBy at; buffers = buffers dcs acs })
+codeSays (Accepted at) dcs acs = acceptance (record { number = 0; at = positionsBy at; buffers = buffers dcs acs })
+
+abbrev pub codeTold : Coded → Told Coded
+codeTold k = told (k .number) k

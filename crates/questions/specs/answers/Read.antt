@@ -4,9 +4,13 @@ use Prim.Native.Nat.{ℕ}
 use Rattle.slice.specs.Calls.{Decoded}
 use Rattle.questions.specs.declared.answers.ReadAnswer.{ReadAnswer}
 use Rattle.questions.specs.declared.answers.ReadAnswer.the-variants.{Refused, Accepted}
+use Rattle.calls.specs.Told.{Told, refusal, acceptance, told}
 use Rattle.calls.specs.Views.{positionsBy}
 
 -- document 01's number and positions of an answer, with the rows of every lent plane as they are now
-abbrev pub readSays : ReadAnswer → List (List ℕ) → Decoded
-readSays (Refused n at) rows = record { number = n; at = positionsBy at; rows = rows }
-readSays (Accepted at) rows = record { number = 0; at = positionsBy at; rows = rows }
+abbrev pub readSays : ReadAnswer → List (List ℕ) → Told Decoded
+readSays (Refused n at) rows = refusal (record { number = n; at = positionsBy at; rows = rows })
+readSays (Accepted at) rows = acceptance (record { number = 0; at = positionsBy at; rows = rows })
+
+abbrev pub readTold : Decoded → Told Decoded
+readTold k = told (k .number) k

@@ -15,18 +15,18 @@ use Rattle.builder.proofs.streams.next_state.Tie as tie
 
 returns : tie.Need-returns
 returns c =
-    let a = c .before .before .before .before .args in
-    after-ac (builderSays (a .b)) (a .at) (c .if1 .taken)
+    let a = c .before .before .before .args in
+    after-ac (a .slices) (builderSays (a .b)) (a .at) (c .if1 .taken)
 
 returns-2 : tie.Need-returns-2
 returns-2 c =
-    let a = c .before .before .before .before .before .args in
-    after-last (builderSays (a .b)) (a .at) (c .before .if1 .left) (c .if2 .taken)
+    let a = c .before .before .before .before .args in
+    after-last (a .slices) (builderSays (a .b)) (a .at) (c .before .if1 .left) (c .if2 .taken)
 
 returns-3 : tie.Need-returns-3
 returns-3 c =
-    let a = c .before .before .before .before .before .args in
-    after-dc (builderSays (a .b)) (a .at) (c .before .if1 .left) (c .if2 .left)
+    let a = c .before .before .before .before .args in
+    after-dc (a .slices) (builderSays (a .b)) (a .at) (c .before .if1 .left) (c .if2 .left)
 
 pub next-state-spec : {M : Type 1} → statement M
 next-state-spec = tie.close (tie.spec (λ c. search needs) (λ c. search needs) returns returns-2 returns-3)

@@ -15,23 +15,12 @@ returns c =
     let v = c .before .before .before .before .before .before in
     let n = v .before .before .before .before .before in
     let a = n .before .before .before .args in
-    let was : Builder =
-    record {
-      slices = a .slices;
-      «max_dc_len» = a .max-dc-len;
-      «max_ac_len» = a .max-ac-len;
-      «ac_turn» = isOn (a .ac-turn .now);
-      next = a .next .now;
-      at = a .at .now;
-    } in
+    let was : Builder = record { «ac_turn» = isOn (a .ac-turn .now); next = a .next .now; at = a .at .now } in
     let q =
-    ap
-    (λ (x : Bool). streamOf (stateOf (a .slices) (a .max-dc-len) (a .max-ac-len) (a .ac-turn .now) (a .next .now) (a .at .now)) x (a .slice) (a .stream .now) (a .out .now))
-    (n .kind-of .ensures) in
+    ap (λ (x : Bool). streamOf (a .width) (a .height) (stateOf (a .ac-turn .now) (a .next .now) (a .at .now)) x (a .slice) (a .stream .now) (a .out .now)) (n .kind-of .ensures) in
     rw (← q)
     (c .stream-out .ensures was (a .out .now) _
-    (streamOf (stateOf (a .slices) (a .max-dc-len) (a .max-ac-len) (a .ac-turn .now) (a .next .now) (a .at .now)) (isAc (n .kind-of .result)) (a .slice) (a .stream .now) (a .out .now))
-    (v .put-stream .ensures))
+    (streamOf (a .width) (a .height) (stateOf (a .ac-turn .now) (a .next .now) (a .at .now)) (isAc (n .kind-of .result)) (a .slice) (a .stream .now) (a .out .now)) (v .put-stream .ensures))
 
 pub vmx-frame-put-spec : {M : Type 1} → statement M
 vmx-frame-put-spec = tie.close (tie.spec (λ c κs. search needs) (λ c κs. search needs) (λ c κs. search needs) (λ c. search needs) returns)

@@ -7,7 +7,7 @@ use Rattle.vmx.proofs.container.vmx_frame_start.Tie as tie
 
 returns : tie.Need-returns
 returns c =
-    let v = c .before .before .before .before .before .before .before .before .before in
+    let v = c .before .before .before .before .before .before in
     let a = v .before .before .before .before .args in
     c .header-out .ensures (a .out .now) _ (headerOf (a .width) (a .height) (isOn (a .interlaced)) (a .quality) (a .dc-shift) (a .out .now) (a .at .now))
     (v .start-frame .ensures)

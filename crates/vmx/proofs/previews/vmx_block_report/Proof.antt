@@ -1,12 +1,12 @@
 -- `vmx::previews::vmx_block_report`.
-use mathlib.Core.Path.{_∙_}
+use Rattle.calls.proofs.Told.{handed-out}
 use Rattle.vmx.proofs.previews.vmx_block_report.Statement.{statement}
 use Rattle.vmx.proofs.previews.vmx_block_report.Tie as tie
 
 returns : tie.Need-returns
 returns c =
     let v = c .before .before .before .before in
-    c .report-out .ensures _ ∙ v .block-report .ensures
+    handed-out _ (c .report-out .ensures _) (v .block-report .ensures)
 
 -- the call changed no length
 report-kept : tie.Need-same-length

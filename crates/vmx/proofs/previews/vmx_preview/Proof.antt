@@ -1,12 +1,12 @@
 -- `vmx::previews::vmx_preview`.
-use mathlib.Core.Path.{_∙_}
+use Rattle.calls.proofs.Told.{handed-out}
 use Rattle.vmx.proofs.previews.vmx_preview.Statement.{statement}
 use Rattle.vmx.proofs.previews.vmx_preview.Tie as tie
 
 returns : tie.Need-returns
 returns c =
     let v = c .before .before .before .before .before .before in
-    c .preview-out .ensures _ _ ∙ v .preview .ensures
+    handed-out _ (c .preview-out .ensures _ _) (v .preview .ensures)
 
 -- the call changed no length
 upper-kept : tie.Need-same-length
