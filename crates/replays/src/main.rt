@@ -6,9 +6,9 @@ mod built;
 mod dct;
 mod frames;
 mod lanes;
+mod pictures;
 mod planes;
 mod reads;
-mod shown;
 mod tables;
 
 use replay::Record;
@@ -35,7 +35,7 @@ fn length_of(p: Part) -> usize {
         Part::Lanes => lanes::LENGTH,
         Part::Planes => planes::LENGTH,
         Part::Reads => reads::LENGTH,
-        Part::Shown => shown::LENGTH,
+        Part::Shown => pictures::LENGTH,
         Part::Tables => tables::LENGTH,
     }
 }
@@ -50,7 +50,7 @@ fn holds(p: Part, b: &Record) -> bool {
         Part::Lanes => lanes::holds(b),
         Part::Planes => planes::holds(b),
         Part::Reads => reads::holds(b),
-        Part::Shown => shown::holds(b),
+        Part::Shown => pictures::holds(b),
         Part::Tables => tables::holds(b),
     }
 }

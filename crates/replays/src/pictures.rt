@@ -83,7 +83,7 @@ fn by_lengths(b: &Record) -> bool {
 }
 
 // The rows of 8-bit samples, as a part of one of the two pictures.
-fn rows8(b: &Record, new: &[u8; MOST], held: &[u8; MOST]) -> bool {
+fn rows8<'a>(b: &Record, new: &'a [u8; MOST], held: &'a [u8; MOST]) -> bool {
     let n = part(new, 0, position(b, 8));
     let h = part(held, 0, position(b, 16));
     let mut number = 255;
@@ -109,7 +109,7 @@ fn same8(b: &Record, number: u32, r: &[u8]) -> bool {
 }
 
 // The same of 10-bit samples.
-fn rows10(b: &Record, new: &[u16; MOST], held: &[u16; MOST]) -> bool {
+fn rows10<'a>(b: &Record, new: &'a [u16; MOST], held: &'a [u16; MOST]) -> bool {
     let n = part16(new, 0, position(b, 8));
     let h = part16(held, 0, position(b, 16));
     let mut number = 255;

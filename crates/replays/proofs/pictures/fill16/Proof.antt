@@ -2,8 +2,8 @@ use mathlib.Core.Path.{_≡_}
 use Prim.Native.Nat.{_-_, _≤_}
 use borrow.Author.Needs.{needs}
 use lib.ListN.{length}
-use Rattle.replays.proofs.shown.fill16.Statement.{statement}
-use Rattle.replays.proofs.shown.fill16.Tie as tie
+use Rattle.replays.proofs.pictures.fill16.Statement.{statement}
+use Rattle.replays.proofs.pictures.fill16.Tie as tie
 
 abbrev Inv-loop : tie.InvT-loop
 Inv-loop out₀ first k₀ out k = (k ≤ length out₀) × (length out ≡ length out₀)
