@@ -41,6 +41,10 @@ pub const DC_READ_MAX: usize = 245_760;
 pub const AC_READ_MAX: usize = 430_080;
 pub const SLICES_MAX: usize = 270;
 
+/// Starts around question 7's limit and far above it, and around a million.
+pub const STARTS: [usize; 11] =
+    [0, 1, 999_999, 1_000_000, 1_000_001, START_MAX - 1, START_MAX, START_MAX + 1, 1 << 32, 1 << 63, usize::MAX];
+
 /// The size call's lengths for a stride.
 pub fn sizes(stride: usize) -> (usize, usize) {
     (DC_BLOCK_BYTES * (stride / 4), AC_BLOCK_BYTES * (stride / 4))

@@ -1,4 +1,3 @@
-pub mod Stripes
 pub mod Places
 pub mod Coefficients
 mod Examples

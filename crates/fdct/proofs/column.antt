@@ -1,1 +1,3 @@
-pub mod Step
+pub mod Lanewise
+pub mod Columns
+pub mod Puts

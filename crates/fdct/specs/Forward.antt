@@ -7,8 +7,7 @@ use Prim.Native.Nat.{ℕ, zero, suc, _+_, _*_, _/_, _%_}
 use lib.IntN.{ℤ, pos, negℤ}
 use lib.ListN.{getD}
 use Rattle.scalar.specs.Tab.{tab}
-use Rattle.fdct.specs.column.Steps.{forwardColumnOf}
-use Rattle.fdct.specs.declared.column.Lanes.{Lanes}
+use Rattle.fdct.specs.column.Steps.{Lanes, forwardColumnOf}
 use Rattle.frow.specs.Rows.{at, forwardRowsOf}
 pub use Rattle.fdct.specs.level_shift.Level.{levelAt}
 unfoldable pub use Rattle.fdct.specs.level_shift.Level.{levelShiftOf}

@@ -5,45 +5,68 @@ pub mod load;
 
 ghost use mathlib.Core.Path.{_≡_};
 ghost use Prim.Native.Nat.{_<_};
+ghost use Rattle.lanes.specs.rows.Block.{blockOf};
+ghost use Rattle.fdct.specs.column.Rows.{rowsOf};
 ghost use Rattle.fdct.specs.Forward.{forwardColumnsOf, transformOf};
+use crate::column::EvenRows;
+use crate::column::OddRows;
+use crate::column::butterfly;
+use crate::column::even;
+use crate::column::odd;
 use crate::level_shift::level;
+use lanes::rows::put;
+use lanes::rows::row;
 
-// The column pass, one column a turn.
+// Even and odd rows in turn.
+fn joined(e: EvenRows, o: OddRows) -> [i16; 64]
+    ensures { λ r. ⌜ r ≡ blockOf (rowsOf e o) ⌝ }
+{
+    let c0 = e.c0;
+    let c1 = o.c1;
+    let c2 = e.c2;
+    let c3 = o.c3;
+    let c4 = e.c4;
+    let c5 = o.c5;
+    let c6 = e.c6;
+    let c7 = o.c7;
+    let mut c = [0i16; 64];
+    put(&mut c, 0, c0);
+    put(&mut c, 1, c1);
+    put(&mut c, 2, c2);
+    put(&mut c, 3, c3);
+    put(&mut c, 4, c4);
+    put(&mut c, 5, c5);
+    put(&mut c, 6, c6);
+    put(&mut c, 7, c7);
+    c
+}
+
+// The column pass, all eight columns at once.
 pub fn columns(b: [i16; 64], shift: u32) -> [i16; 64]
     requires { ⌜ shift < 15 ⌝ }
     ensures { λ r. ⌜ r ≡ forwardColumnsOf shift b ⌝ }
 {
-    let mut c = [0i16; 64];
-    for j in 0..8 {
-        let v = crate::column::column(
-            b[j],
-            b[j + 8],
-            b[j + 16],
-            b[j + 24],
-            b[j + 32],
-            b[j + 40],
-            b[j + 48],
-            b[j + 56],
-            shift,
-        );
-        let v0 = v.v0;
-        let v1 = v.v1;
-        let v2 = v.v2;
-        let v3 = v.v3;
-        let v4 = v.v4;
-        let v5 = v.v5;
-        let v6 = v.v6;
-        let v7 = v.v7;
-        c[j] = v0;
-        c[j + 8] = v1;
-        c[j + 16] = v2;
-        c[j + 24] = v3;
-        c[j + 32] = v4;
-        c[j + 40] = v5;
-        c[j + 48] = v6;
-        c[j + 56] = v7;
-    }
-    c
+    let s = butterfly(
+        row(&b, 0),
+        row(&b, 1),
+        row(&b, 2),
+        row(&b, 3),
+        row(&b, 4),
+        row(&b, 5),
+        row(&b, 6),
+        row(&b, 7),
+    );
+    let tp03 = s.tp03;
+    let tp12 = s.tp12;
+    let tm03 = s.tm03;
+    let tm12 = s.tm12;
+    let d0 = s.d0;
+    let d1 = s.d1;
+    let d2 = s.d2;
+    let d3 = s.d3;
+    let e = even(tp03, tp12, tm03, tm12, shift);
+    let o = odd(d0, d1, d2, d3, shift);
+    joined(e, o)
 }
 
 // The forward transform: add is the level shift, shift is 3 for 8-bit samples and 1 for 10-bit samples.

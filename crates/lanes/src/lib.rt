@@ -5,6 +5,7 @@ pub mod order;
 pub mod packs;
 pub mod pair_products;
 pub mod products;
+pub mod rows;
 pub mod shifts;
 pub mod signs;
 pub mod sums;

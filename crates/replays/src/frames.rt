@@ -18,7 +18,7 @@ const VIEWS: usize = 2 * SLICES_MAX + 2;
 // Two numbers for each.
 const TABLE: usize = 2 * VIEWS;
 
-fn flag(x: bool) -> u8 {
+pub fn flag(x: bool) -> u8 {
     if x { 1 } else { 0 }
 }
 

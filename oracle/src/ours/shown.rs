@@ -23,7 +23,7 @@ pub fn place(new: usize, held: usize, stride: usize, slice: usize, verdict: u32)
     let (mut from_new, mut offset, mut len) = (7, 7, 7);
     let number = vmx_shown_rows(new, held, stride, slice, verdict, &mut from_new, &mut offset, &mut len);
     if number > 0 {
-        assert_eq!((offset, len), (0, 0), "a refused view is an empty part");
+        assert_eq!((from_new, offset, len), (7, 0, 0), "a refused view is an empty part, and no picture is named");
         return Err(number);
     }
     Ok((from_new == 1, offset, len))

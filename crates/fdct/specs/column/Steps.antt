@@ -3,10 +3,6 @@ use Prim.Native.Nat.{ℕ, _+_}
 use lib.IntN.{ℤ, pos, negsuc}
 unfoldable pub use Rattle.scalar.specs.Named.{_▸_}
 use Rattle.scalar.specs.Scalar.{addsOf, subsOf, mulhiOf, sllOf, orOf}
-use Rattle.fdct.specs.declared.column.Lanes.{Lanes}
-use Rattle.fdct.specs.declared.column.Sides.{Sides}
-use Rattle.fdct.specs.declared.column.Evens.{Evens}
-use Rattle.fdct.specs.declared.column.Odds.{Odds}
 
 -- FDCT_TAN1, FDCT_TAN2, FDCT_TAN3 (43790 as 16 bits, read as signed), FDCT_SQRT2, FDCT_ROUND1 of tables.rs
 abbrev pub tan1 : ℤ
@@ -23,6 +19,41 @@ sqrt2 = pos 23170
 
 abbrev pub rounder : ℤ
 rounder = pos 1
+
+-- what the first steps make of a column
+pub record Sides : Type 0 where
+  pub tp03 : ℤ
+  pub tp12 : ℤ
+  pub tm03 : ℤ
+  pub tm12 : ℤ
+  pub d0 : ℤ
+  pub d1 : ℤ
+  pub d2 : ℤ
+  pub d3 : ℤ
+
+-- rows 0, 2, 4 and 6 of a column, and the others
+pub record Evens : Type 0 where
+  pub c0 : ℤ
+  pub c2 : ℤ
+  pub c4 : ℤ
+  pub c6 : ℤ
+
+pub record Odds : Type 0 where
+  pub c1 : ℤ
+  pub c3 : ℤ
+  pub c5 : ℤ
+  pub c7 : ℤ
+
+-- a column: one lane of each of eight rows
+pub record Lanes : Type 0 where
+  pub v0 : ℤ
+  pub v1 : ℤ
+  pub v2 : ℤ
+  pub v3 : ℤ
+  pub v4 : ℤ
+  pub v5 : ℤ
+  pub v6 : ℤ
+  pub v7 : ℤ
 
 -- sums for the even rows, differences of opposite lanes for the odd ones
 unfoldable pub butterflyOf : ℤ → ℤ → ℤ → ℤ → ℤ → ℤ → ℤ → ℤ → Sides

@@ -1,13 +1,10 @@
--- `fdct::column::butterfly` takes the steps of `butterflyOf`, one after the other. Assumes nothing.
-use borrow.Author.Needs.{needs, sfits-of}
-use mathlib.Core.Path.{_∙_, refl}
-use Rattle.fdct.specs.column.Steps.{butterflyOf}
-use Rattle.fdct.proofs.column.Step.{step, enter8}
+use borrow.Author.Needs.{needs}
+use Rattle.fdct.proofs.column.Lanewise.{makeSideRows, butterfly-law}
 use Rattle.fdct.proofs.column.butterfly.Statement.{statement}
 use Rattle.fdct.proofs.column.butterfly.Tie as tie
 
 returns : tie.Need-returns
-unfolding butterflyOf
+unfolding makeSideRows
 returns c =
     let d13 = c in
     let d12 = d13 .before in
@@ -24,22 +21,7 @@ returns c =
     let d1 = d2 .before in
     let d0 = d1 .before in
     let s = d0 .before in
-    step _ (sfits-of (d0 .subs1 .ok)) (d0 .subs1 .ensures) (
-    step _ (sfits-of (d1 .adds1 .ok)) (d1 .adds1 .ensures) (
-    step _ (sfits-of (d2 .subs12 .ok)) (d2 .subs12 .ensures) (
-    step _ (sfits-of (d3 .adds12 .ok)) (d3 .adds12 .ensures) (
-    step _ (sfits-of (d4 .subs13 .ok)) (d4 .subs13 .ensures) (
-    step _ (sfits-of (d5 .adds13 .ok)) (d5 .adds13 .ensures) (
-    step _ (sfits-of (d6 .subs14 .ok)) (d6 .subs14 .ensures) (
-    step _ (sfits-of (d7 .adds14 .ok)) (d7 .adds14 .ensures) (
-    step _ (sfits-of (d8 .subs15 .ok)) (d8 .subs15 .ensures) (
-    step _ (sfits-of (d9 .subs16 .ok)) (d9 .subs16 .ensures) (
-    step _ (sfits-of (d10 .adds15 .ok)) (d10 .adds15 .ensures) (
-    step _ (sfits-of (d11 .adds16 .ok)) (d11 .adds16 .ensures) (
-    step _ (sfits-of (d12 .adds17 .ok)) (d12 .adds17 .ensures) (
-    step _ (sfits-of (d13 .adds18 .ok)) (d13 .adds18 .ensures) (
-    refl))))))))))))))
-    ∙ enter8 butterflyOf (s .fits .x0) (s .fits .x1) (s .fits .x2) (s .fits .x3) (s .fits .x4) (s .fits .x5) (s .fits .x6) (s .fits .x7)
+    butterfly-law (s .args .x0) (s .args .x1) (s .args .x2) (s .args .x3) (s .args .x4) (s .args .x5) (s .args .x6) (s .args .x7) (d0 .subs .ensures) (d1 .adds .ensures) (d2 .subs2 .ensures) (d3 .adds2 .ensures) (d4 .subs3 .ensures) (d5 .adds3 .ensures) (d6 .subs4 .ensures) (d7 .adds4 .ensures) (d8 .subs5 .ensures) (d9 .subs6 .ensures) (d10 .adds5 .ensures) (d11 .adds6 .ensures) (d12 .adds7 .ensures) (d13 .adds8 .ensures)
 
 pub butterfly-spec : {M : Type 1} → statement M
-butterfly-spec = tie.close (tie.spec (λ c κs. tt) (λ c κs. tt) (λ c κs. tt) (λ c κs. tt) (λ c κs. tt) (λ c κs. tt) (λ c κs. tt) (λ c κs. tt) (λ c κs. tt) (λ c κs. tt) (λ c κs. tt) (λ c κs. tt) (λ c κs. tt) (λ c κs. tt) returns)
+butterfly-spec = tie.close (tie.spec (λ c κs. search needs) (λ c κs. search needs) (λ c κs. search needs) (λ c κs. search needs) (λ c κs. search needs) (λ c κs. search needs) (λ c κs. search needs) (λ c κs. search needs) (λ c κs. search needs) (λ c κs. search needs) (λ c κs. search needs) (λ c κs. search needs) (λ c κs. search needs) (λ c κs. search needs) returns)
