@@ -69,7 +69,15 @@ fn exported(b: &Record, new: usize, held: usize, stride: usize, slice: usize) ->
         &mut offset,
         &mut len,
     );
-    answered(b, x, offset, len) && (0 < x || from_new == byte32(b[2]))
+    answered(b, x, offset, len) && named(b, x, from_new)
+}
+
+// Out of which picture; a refused call leaves that place as it was.
+fn named(b: &Record, number: u32, from_new: u32) -> bool {
+    if 0 < number {
+        return from_new == 7;
+    }
+    from_new == byte32(b[2])
 }
 
 // The number by the pictures' lengths alone.
