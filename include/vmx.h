@@ -6,7 +6,7 @@
  *
  * A call that returns uint32_t under "number" returns 0 where it is accepted, else the number of the first question of
  * the list below that is answered no. A refused call leaves all memory that it was lent as it was, except that a part
- * (offset, length) is 0, 0 and so are the lengths of a size call.
+ * (offset, length) is 0, 0.
  *
  * What the caller owes, as in any C library: a buffer (pointer, count) has so many elements (a count of 0 may come
  * with any pointer that is not null), each place for an answer can be read and written, and no place for an answer lies
@@ -98,7 +98,7 @@ uint32_t vmx_decode_slice10(uint16_t *p0, size_t p0_len, size_t stride0, uint16_
 
 /* Lengths in bytes that the streams of a plane, or of the first `count` of four planes together, are at most: 4 bytes a
  * block (DC) and 197 bytes a block (AC).
- * Number: 4 (a plane); 3, 4 (a slice). Refused: both lengths are 0. */
+ * Number: 4 (a plane); 3, 4 (a slice). Refused: both lengths stay as they were. */
 uint32_t vmx_plane_size(size_t stride, size_t *dc_len, size_t *ac_len);
 uint32_t vmx_slice_size(size_t count, size_t stride0, size_t stride1, size_t stride2, size_t stride3, size_t *dc_len,
                         size_t *ac_len);
@@ -128,16 +128,20 @@ void vmx_quality_preset(uint8_t quality, uint8_t *kept, size_t *preset);
 uint32_t vmx_layout(size_t width, size_t height, size_t *aligned_height, size_t *slices, size_t *luma, size_t *chroma,
                     size_t *max_dc_len, size_t *max_ac_len);
 
-/* 1 if a frame of this height is interlaced when its header says so (480, 576, 1080), else 0. */
-uint32_t vmx_interlace_capable(size_t height);
+/* Whether a frame of this size is interlaced when its header says so: *capable is 1 (heights 480, 576, 1080) or 0.
+ * Number: 9. */
+uint32_t vmx_interlace_capable(size_t width, size_t height, uint32_t *capable);
 
-/* The row of the image that a coded row holds: 1, and *row is set; 0 for a row of padding, and *row stays. interlaced is 0
- * or any other number: then the upper half of the coded rows holds the even rows, the lower half the odd ones. */
-uint32_t vmx_image_row(size_t height, size_t r, uint32_t interlaced, size_t *row);
+/* The row of the image that coded row r holds: *there is 1 and *row is set; *there is 0 for a row of padding, and *row
+ * stays. interlaced is 0 or any other number: then the upper half of the coded rows holds the even rows, the lower half
+ * the odd ones.
+ * Number: 9. */
+uint32_t vmx_image_row(size_t width, size_t height, size_t r, uint32_t interlaced, uint32_t *there, size_t *row);
 
-/* The size of the 1/8 preview; interlaced is 0 or any other number. */
-size_t vmx_preview_width(size_t width);
-size_t vmx_preview_height(size_t height, uint32_t interlaced);
+/* The size of the 1/8 preview; interlaced is 0 or any other number.
+ * Number: 9. */
+uint32_t vmx_preview_size(size_t width, size_t height, uint32_t interlaced, size_t *preview_width,
+                          size_t *preview_height);
 
 /* Puts all questions about a frame and says what its header holds: interlaced 1 or 0, quality and DC shift as stored,
  * the header's length in bytes, ac 1 if AC streams follow the DC streams, else 0. Bytes after the last stream are
@@ -149,7 +153,7 @@ uint32_t vmx_parse(size_t width, size_t height, const uint8_t *frame, size_t fra
 /* The same in one call, and where all streams of the frame lie: views[2 * i] and views[2 * i + 1] are offset and length of
  * the DC stream of slice i, views[2 * (slices + i)] and the number after it those of its AC stream (0 and 0 where the
  * frame has none), for slices as vmx_layout says. So 4 * slices numbers are set, at most VMX_VIEWS; those after them stay.
- * Number: 5 (views_len at least 4 * slices?), then those of vmx_parse. Refused: all views stay as they were. */
+ * Number: 9, 5 (views_len at least 4 * slices?), then those of vmx_parse. Refused: all views stay as they were. */
 #define VMX_VIEWS 1080
 uint32_t vmx_streams(size_t width, size_t height, const uint8_t *frame, size_t frame_len, uint32_t *views,
                      size_t views_len, uint32_t *interlaced, uint32_t *quality, uint32_t *dc_shift, size_t *header_len,
@@ -184,7 +188,7 @@ uint32_t vmx_frame_complete(size_t width, size_t height, uint32_t ac_turn, size_
 
 /* Of two pictures with so many samples each, in which one a viewer finds the slice's sixteen rows (*from_new 1: the new
  * one, 0: the held one), where they begin and how many samples they are. verdict is the number that the slice's reading
- * call returned: 0 shows the new picture. On refusal *from_new, *offset and *len are 0.
+ * call returned: 0 shows the new picture. On refusal *offset and *len are 0, and *from_new stays as it was.
  * Number: 4, 5, 14. */
 uint32_t vmx_shown_rows(size_t new_len, size_t held_len, size_t stride, size_t slice, uint32_t verdict,
                         uint32_t *from_new, size_t *offset, size_t *len);

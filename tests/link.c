@@ -22,14 +22,18 @@ enum { WIDTH = 16, HEIGHT = 32, ROOM = 64 };
 static const size_t FAR = (size_t)1 << 32;
 
 static void geometry(void) {
-    size_t aligned = 7, slices = 7, luma = 7, chroma = 7, dc = 7, ac = 7;
+    size_t aligned = 7, slices = 7, luma = 7, chroma = 7, dc = 7, ac = 7, wide = 7, high = 7;
+    uint32_t capable = 7;
     check(vmx_layout(WIDTH, HEIGHT, &aligned, &slices, &luma, &chroma, &dc, &ac) == VMX_OK, "layout");
     check(aligned == 32 && slices == 2 && luma == 16 && chroma == 8 && dc == 512 && ac == 896, "layout's numbers");
     check(vmx_layout(17, HEIGHT, &aligned, &slices, &luma, &chroma, &dc, &ac) == VMX_NO_SIZE, "odd width");
     check(aligned == 32 && slices == 2 && luma == 16 && chroma == 8 && dc == 512 && ac == 896, "kept on refusal");
-    check(vmx_interlace_capable(1080) == 1 && vmx_interlace_capable(720) == 0, "interlace capable");
-    check(vmx_preview_width(1920) == 240 && vmx_preview_height(1080, 0) == 135 && vmx_preview_height(1080, 1) == 134,
-          "preview size");
+    check(vmx_interlace_capable(1920, 1080, &capable) == VMX_OK && capable == 1, "1080 rows interlaced");
+    check(vmx_interlace_capable(1280, 720, &capable) == VMX_OK && capable == 0, "720 rows not");
+    check(vmx_interlace_capable(17, 1080, &capable) == VMX_NO_SIZE && capable == 0, "odd width");
+    check(vmx_preview_size(1920, 1080, 0, &wide, &high) == VMX_OK && wide == 240 && high == 135, "preview size");
+    check(vmx_preview_size(1920, 1080, 1, &wide, &high) == VMX_OK && wide == 240 && high == 134, "preview of fields");
+    check(vmx_preview_size(1920, 4321, 0, &wide, &high) == VMX_NO_SIZE && wide == 240 && high == 134, "4,321 rows");
 }
 
 /* An 8-bit plane at place 0, stride 8, preset 0, all samples alike: its streams, at the positions 2 and 1. */
@@ -103,8 +107,9 @@ static void slices(void) {
     }
     check(vmx_slice_size(2, 8, 8, 0, 0, &dc_len, &ac_len) == VMX_OK && dc_len == 16 && ac_len == 788, "size of two planes");
     check(vmx_plane_size(8, &dc_len, &ac_len) == VMX_OK && dc_len == 8 && ac_len == 394, "size of a plane");
-    check(vmx_plane_size(12, &dc_len, &ac_len) == VMX_NO_STRIDE && dc_len == 0 && ac_len == 0, "no size");
-    check(vmx_slice_size(5, 8, 8, 8, 8, &dc_len, &ac_len) == VMX_NO_PLANE, "no slice of five planes");
+    check(vmx_plane_size(12, &dc_len, &ac_len) == VMX_NO_STRIDE && dc_len == 8 && ac_len == 394, "no size");
+    check(vmx_slice_size(5, 8, 8, 8, 8, &dc_len, &ac_len) == VMX_NO_PLANE && dc_len == 8 && ac_len == 394,
+          "no slice of five planes");
 
     check(vmx_encode_slice8(p0, 128, 8, p1, 128, 8, none, 0, 0, none, 0, 0, 5, 0, 0, dc, 16, &d, ac, 788, &a) == VMX_NO_PLANE,
           "five planes");
@@ -151,6 +156,7 @@ static void previews(void) {
 
 static void presets_and_rows(void) {
     uint8_t kept = 0;
+    uint32_t there = 7;
     size_t preset = 99, row = 99;
     vmx_quality_preset(36, &kept, &preset);
     check(kept == 36 && preset == 24, "quality 36");
@@ -158,10 +164,12 @@ static void presets_and_rows(void) {
     check(kept == 35 && preset == 0, "quality 35");
     vmx_quality_preset(100, &kept, &preset);
     check(kept == 99 && preset == 0, "quality 100");
-    check(vmx_image_row(1080, 1, 0, &row) == 1 && row == 1, "row 1 of a progressive image");
-    check(vmx_image_row(1080, 1, 1, &row) == 1 && row == 2, "row 1 of the top field");
-    check(vmx_image_row(1080, 544, 1, &row) == 1 && row == 1, "the first row of the bottom field");
-    check(vmx_image_row(1080, 1080, 0, &row) == 0 && row == 1, "padding");
+    check(vmx_image_row(64, 1080, 1, 0, &there, &row) == VMX_OK && there == 1 && row == 1, "row 1 of a progressive image");
+    check(vmx_image_row(64, 1080, 1, 1, &there, &row) == VMX_OK && there == 1 && row == 2, "row 1 of the top field");
+    check(vmx_image_row(64, 1080, 544, 1, &there, &row) == VMX_OK && there == 1 && row == 1, "row 0 of the bottom field");
+    check(vmx_image_row(64, 1080, 1080, 0, &there, &row) == VMX_OK && there == 0 && row == 1, "padding");
+    there = 7;
+    check(vmx_image_row(17, 100000, 5, 0, &there, &row) == VMX_NO_SIZE && there == 7 && row == 1, "100,000 rows");
 }
 
 static void frame(void) {
@@ -211,6 +219,8 @@ static void frame(void) {
     check(vmx_streams(WIDTH, HEIGHT, out, at - 1, views, VMX_VIEWS, &interlaced, &quality, &shift, &header_len, &there) ==
               VMX_NO_BYTES,
           "a byte short");
+    check(vmx_streams(17, HEIGHT, out, at, views, 0, &interlaced, &quality, &shift, &header_len, &there) == VMX_NO_SIZE,
+          "9 before 5");
     check(views[0] == 99, "kept on refusal");
     check(vmx_streams(WIDTH, HEIGHT, out, at, views, VMX_VIEWS, &interlaced, &quality, &shift, &header_len, &there) == VMX_OK,
           "all streams");
@@ -230,8 +240,9 @@ static void shown(void) {
     check(from_new == 1 && offset == 256 && len == 256, "out of the new picture");
     check(vmx_shown_rows(512, 512, 16, 1, VMX_NO_CODE, &from_new, &offset, &len) == VMX_OK, "shown");
     check(from_new == 0 && offset == 256 && len == 256, "out of the held picture");
+    from_new = 7;
     check(vmx_shown_rows(512, 511, 16, 1, VMX_OK, &from_new, &offset, &len) == VMX_NO_ROWS, "held too short");
-    check(from_new == 0 && offset == 0 && len == 0, "an empty part");
+    check(from_new == 7 && offset == 0 && len == 0, "an empty part, of no picture");
     check(vmx_shown_time(20, 10, VMX_OK) == 20 && vmx_shown_time(20, 10, VMX_NO_CODE) == 10, "time");
 }
 

@@ -41,6 +41,10 @@ pub const DC_READ_MAX: usize = 245_760;
 pub const AC_READ_MAX: usize = 430_080;
 pub const SLICES_MAX: usize = 270;
 
+/// Starts around question 7's limit and far above it, and around a million.
+pub const STARTS: [usize; 11] =
+    [0, 1, 999_999, 1_000_000, 1_000_001, START_MAX - 1, START_MAX, START_MAX + 1, 1 << 32, 1 << 63, usize::MAX];
+
 /// The size call's lengths for a stride.
 pub fn sizes(stride: usize) -> (usize, usize) {
     (DC_BLOCK_BYTES * (stride / 4), AC_BLOCK_BYTES * (stride / 4))
@@ -132,4 +136,18 @@ pub fn report(stride: usize, out: usize, ac: (usize, usize)) -> u32 {
         return NO_START;
     }
     0
+}
+
+/// Shown rows: 4, 5 (up to the slice's end in both pictures, which have so many samples), 14.
+pub fn shown(new: usize, held: usize, stride: usize, slice: usize) -> u32 {
+    let whole = |len: usize| slice.checked_add(1).and_then(|s| s.checked_mul(16 * stride)).is_some_and(|e| e <= len);
+    if strides(&[stride]) > 0 {
+        NO_STRIDE
+    } else if !whole(new) || !whole(held) {
+        NO_ROWS
+    } else if slice >= SLICES_MAX {
+        NO_TURN
+    } else {
+        0
+    }
 }

@@ -29,10 +29,9 @@ pub type DecodeSlice<S> = unsafe extern "C" fn(
 extern "C" {
     fn vmx_layout(width: usize, height: usize, aligned_height: At, slices: At, luma: At, chroma: At, max_dc_len: At,
         max_ac_len: At) -> u32;
-    fn vmx_interlace_capable(height: usize) -> u32;
-    fn vmx_image_row(height: usize, r: usize, interlaced: u32, row: At) -> u32;
-    fn vmx_preview_width(width: usize) -> usize;
-    fn vmx_preview_height(height: usize, interlaced: u32) -> usize;
+    fn vmx_interlace_capable(width: usize, height: usize, capable: *mut u32) -> u32;
+    fn vmx_image_row(width: usize, height: usize, r: usize, interlaced: u32, there: *mut u32, row: At) -> u32;
+    fn vmx_preview_size(width: usize, height: usize, interlaced: u32, preview_width: At, preview_height: At) -> u32;
     fn vmx_quality_preset(quality: u8, kept: ByteMut, preset: At);
     fn vmx_streams(width: usize, height: usize, frame: Byte, frame_len: usize, views: *mut u32, views_len: usize,
         interlaced: *mut u32, quality: *mut u32, dc_shift: *mut u32, header_len: At, ac: *mut u32) -> u32;
@@ -123,21 +122,25 @@ pub fn layout(width: usize, height: usize) -> Result<Geometry, Refused> {
     Ok(g)
 }
 
-pub fn interlace_capable(height: usize) -> bool {
-    // SAFETY: no memory is lent.
-    unsafe { vmx_interlace_capable(height) != 0 }
-}
-
-pub fn image_row(height: usize, r: usize, interlaced: bool) -> Option<usize> {
-    let mut row = 0;
+pub fn interlace_capable(width: usize, height: usize) -> Result<bool, Refused> {
+    let mut capable = 0;
     // SAFETY: one place of our own.
-    let there = unsafe { vmx_image_row(height, r, interlaced.into(), &mut row) };
-    (there != 0).then_some(row)
+    verdict(unsafe { vmx_interlace_capable(width, height, &mut capable) })?;
+    Ok(capable != 0)
 }
 
-pub fn preview_size(width: usize, height: usize, interlaced: bool) -> (usize, usize) {
-    // SAFETY: no memory is lent.
-    unsafe { (vmx_preview_width(width), vmx_preview_height(height, interlaced.into())) }
+pub fn image_row(width: usize, height: usize, r: usize, interlaced: bool) -> Result<Option<usize>, Refused> {
+    let (mut there, mut row) = (0, 0);
+    // SAFETY: two places of our own.
+    verdict(unsafe { vmx_image_row(width, height, r, interlaced.into(), &mut there, &mut row) })?;
+    Ok((there != 0).then_some(row))
+}
+
+pub fn preview_size(width: usize, height: usize, interlaced: bool) -> Result<(usize, usize), Refused> {
+    let (mut w, mut h) = (0, 0);
+    // SAFETY: two places of our own.
+    verdict(unsafe { vmx_preview_size(width, height, interlaced.into(), &mut w, &mut h) })?;
+    Ok((w, h))
 }
 
 pub fn quality_preset(quality: u8) -> (u8, usize) {

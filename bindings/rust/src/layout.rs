@@ -6,7 +6,10 @@ use crate::refused::Refused;
 /// Rows of one slice.
 pub const SLICE_HEIGHT: usize = 16;
 
-/// Plane geometry for one frame size.
+/// Why no method of a layout is refused: there is none for another size.
+const ACCEPTED: &str = "a layout's size is accepted";
+
+/// Plane geometry for one frame size, which is accepted.
 #[derive(Clone, Copy, Debug, PartialEq, Eq)]
 pub struct Layout {
     width: usize,
@@ -90,7 +93,7 @@ impl Layout {
 
     /// Whether a frame of this height is coded in fields when asked.
     pub fn interlace_capable(&self) -> bool {
-        ffi::interlace_capable(self.height)
+        ffi::interlace_capable(self.width, self.height).expect(ACCEPTED)
     }
 
     /// The image row that is coded in row `r`, or `None` for a padding row. Fields: even image rows are coded in the
@@ -102,12 +105,12 @@ impl Layout {
     /// # Ok::<(), vmx::Refused>(())
     /// ```
     pub fn image_row(&self, r: usize, interlaced: bool) -> Option<usize> {
-        ffi::image_row(self.height, r, interlaced)
+        ffi::image_row(self.width, self.height, r, interlaced).expect(ACCEPTED)
     }
 
     /// Width and height of the 1/8 preview.
     pub fn preview_size(&self, interlaced: bool) -> (usize, usize) {
-        ffi::preview_size(self.width, self.height, interlaced)
+        ffi::preview_size(self.width, self.height, interlaced).expect(ACCEPTED)
     }
 }
 
@@ -139,6 +142,9 @@ mod tests {
     fn sizes_out_of_range() {
         for (w, h) in [(14, 16), (17, 16), (7682, 16), (16, 15), (16, 4321), (usize::MAX, 16), (0, 0)] {
             assert_eq!(Layout::new(w, h), Err(Refused::Size), "{w} x {h}");
+            assert_eq!(ffi::interlace_capable(w, h), Err(Refused::Size), "{w} x {h}");
+            assert_eq!(ffi::image_row(w, h, 0, false), Err(Refused::Size), "{w} x {h}");
+            assert_eq!(ffi::preview_size(w, h, false), Err(Refused::Size), "{w} x {h}");
         }
         assert!(Layout::new(7680, 4320).is_ok());
     }

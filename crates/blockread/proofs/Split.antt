@@ -1,5 +1,5 @@
 -- A plane's first block, and the blocks after it.
-use mathlib.Core.Path.{_≡_, refl, sym, ap, ap₂, _∙_}
+use mathlib.Core.Path.{_≡_, refl, sym, ap, ap₂, subst, _∙_}
 use mathlib.Core.Bool.{Bool, true, false, not}
 use mathlib.Core.List.{List, []}
 use Prim.Native.Nat.{ℕ, suc, _*_}
@@ -7,9 +7,11 @@ use borrow.Author.Tests.{ltb-true, ltb-false, le-leb, lt-leb}
 use lib.Dec.{leb, ltb}
 use lib.IntN.{ℤ, pos}
 use lib.ListN.{set, length-set}
+use mir.Facts.{toZ-ofZ}
 use mir.Syntax.{w16}
 use mir.Val.{SFits}
 use Rattle.scalar.specs.Scalar.{addOf}
+use Rattle.scalar.proofs.Laws.{back}
 use Rattle.bits.specs.Bits.{Stream, bitAt, bytesFor}
 use Rattle.bitreader.specs.Cursor.{NextDc}
 use Rattle.bitreader.specs.declared.Got.{Got}
@@ -46,6 +48,9 @@ not-flat r = go (ltb r 64) refl
     go : (b : Bool) → ltb r 64 ≡ b → not (leb 64 r) ≡ ltb r 64
     go true e = rw (lt-leb 64 r (ltb-true r 64 e)) (sym e)
     go false e = rw (le-leb 64 r (ltb-false r 64 e)) (sym e)
+
+pub fits-back : {z : ℤ} → SFits w16 z → SFits w16 (back w16 z)
+fits-back h = subst (SFits w16) (sym (toZ-ofZ h)) h
 
 module _ (shift : ℕ) (dc ac : List ℕ) (s : Stand) (a : AcGot) (h : Got) (p : Placed ac (s .ac .pos) (s .pending) a) (b : NextDc dc (s .dc) h)
     (g : goodSteps (readSteps 1 (bitAt dc) (s .dc .pos)) ≡ true) where

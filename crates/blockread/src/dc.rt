@@ -1,10 +1,26 @@
 // A block's DC by its code, and the preview's byte of it (slice.rs).
 ghost use mathlib.Core.Path.{_≡_};
 ghost use Prim.Native.Nat.{_<_};
+ghost use mir.Syntax.{w16};
+ghost use mir.Val.{ofZ};
 ghost use Rattle.scalar.specs.Scalar.{addOf};
 ghost use Rattle.calls.specs.ReadPlane.{settle};
 ghost use Rattle.blockread.specs.dc.Steps.{byteOf};
 ghost use Rattle.acread.specs.through.Codes.{stepOf};
+
+// The 16 bits of x.
+fn word(x: i16) -> u16
+    ensures { λ r. ⌜ r ≡ ofZ w16 x ⌝ }
+{
+    scalar::bits16(x) as u16
+}
+
+// "Is added back modulo 65,536 when read": the sum of the two words, which wraps.
+fn add_back(step: i16, prior: i16) -> i16
+    ensures { λ r. ⌜ r ≡ addOf step prior ⌝ }
+{
+    scalar::signed16(std::num::wrapping_add_u16(word(step), word(prior)))
+}
 
 // A block's DC: a zero step keeps what stands at place 0, any other, shifted back, replaces it; the prediction is added, wrapping.
 pub fn settled(run: u64, num: u64, shift: u32, here: i16, prior: i16) -> i16
@@ -13,9 +29,9 @@ pub fn settled(run: u64, num: u64, shift: u32, here: i16, prior: i16) -> i16
 {
     if run == 0 {
         let step = scalar::sll16(bitreader::from_code(num), shift);
-        scalar::add1(step, prior)
+        add_back(step, prior)
     } else {
-        scalar::add1(here, prior)
+        add_back(here, prior)
     }
 }
 

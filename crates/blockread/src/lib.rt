@@ -1,14 +1,16 @@
 // A plane's blocks, read one by one from both streams (slice.rs, decode_plane without the transform).
+// The reader of a block stands in a file for each depth: with one caller it is made part of that depth's loop over blocks,
+// where one reader for both would stay a call, its block and cursors in memory.
 pub mod ac;
 pub mod dc;
+pub mod eight;
+pub mod ten;
 
 ghost use mathlib.Core.Path.{_≡_};
-ghost use mathlib.Core.Bool.{true};
 ghost use Prim.Native.Nat.{_^_, _<_};
 ghost use Rattle.bits.specs.Bits.{bytesFor};
-ghost use Rattle.tables.specs.Zigzag.{zigzag};
 ghost use Rattle.calls.specs.Views.{positionsBy};
-ghost use Rattle.blockread.specs.On.{Begun, Ready, NextBlock, readOn, goodPlane};
+ghost use Rattle.blockread.specs.On.{Begun};
 use bitreader::AcCursor;
 use calls::Positions;
 
@@ -50,32 +52,5 @@ pub fn ends(s: Stand) -> Positions
     Positions {
         dc: bitreader::end_byte(c),
         ac: bitreader::end_byte(d),
-    }
-}
-
-// The next block of a plane whose codes are good: its AC places, then its DC.
-pub fn next_block(dc: &[u8], ac: &[u8], s: Stand, shift: u32, z: &[u8; 64]) -> BlockGot
-    requires { ⌜ Ready (now dc) (now ac) s × (s .dc .pos < 2 ^ 58) × (s .ac .pos < 2 ^ 58) × (shift < 16)
-        × (now z ≡ zigzag) × (goodPlane (readOn shift 1 (now dc) (now ac) s) ≡ true) ⌝ }
-    ensures { λ r. ⌜ NextBlock shift (now (dc .entry)) (now (ac .entry)) s r ⌝ }
-{
-    let a = s.ac;
-    let d = s.dc;
-    let g = crate::ac::read_block(ac, a, s.pending, z);
-    let h = bitreader::next_dc(dc, d);
-    let mut nat = g.nat;
-    let last = crate::dc::settled(h.run, h.num, shift, nat[0], s.last);
-    nat[0] = last;
-    let e = h.c;
-    let b = g.c;
-    BlockGot {
-        next: Stand {
-            dc: e,
-            ac: b,
-            pending: g.pending,
-            last,
-        },
-        flat: 64 <= s.pending,
-        nat,
     }
 }

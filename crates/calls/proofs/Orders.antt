@@ -7,7 +7,7 @@ use Prim.Native.Nat.{ℕ}
 use lib.IntN.{ℤ, pos}
 use lib.ListN.{getD, replicate}
 use Rattle.scalar.specs.Scalar.{wrap16, addOf, sraOf}
-use Rattle.ask.specs.Ask.{Question, firstNo}
+use Rattle.ask.specs.Ask.{Question, refused, accepted, firstNo, asked}
 use Rattle.ask.proofs.AtLimits.{Broken, no, limits, holds}
 use Rattle.calls.specs.Arguments.{eight, Settings, Rows, Plane, Call, onePlane, oneSlice, PerStream}
 use Rattle.calls.specs.Questions.{readingQuestions, previewQuestions, reportQuestions, planeSizeQuestions, sliceSizeQuestions}
@@ -131,9 +131,9 @@ slice-size-limits : holds ofSliceSize
 unfolding ofSliceSize firstNo sliceSizeQuestions
 slice-size-limits = refl
 
-sizes : planeSize 8 .lengths .dc ∷ planeSize 8 .lengths .ac ∷ sliceSize 2 16 8 9 9 .lengths .dc ∷ sliceSize 2 16 8 9 9 .lengths .ac ∷ sliceSize 5 9 9 9 9 .number ∷ sliceSize 4 8 8 8 9 .number ∷ planeSize 0 .number ∷ []
-    ≡ 8 ∷ 394 ∷ 24 ∷ 1182 ∷ 3 ∷ 4 ∷ 4 ∷ []
-unfolding planeSize sliceSize firstNo planeSizeQuestions sliceSizeQuestions
+sizes : planeSize 8 ∷ sliceSize 2 16 8 9 9 ∷ sliceSize 5 9 9 9 9 ∷ sliceSize 4 8 8 8 9 ∷ planeSize 0 ∷ []
+    ≡ accepted (both 8 394) ∷ accepted (both 24 1182) ∷ refused 3 ∷ refused 4 ∷ refused 4 ∷ []
+unfolding planeSize sliceSize asked firstNo planeSizeQuestions sliceSizeQuestions
 sizes = refl
 
 -- "a DC of 1020 at level 128 gives 0 here"

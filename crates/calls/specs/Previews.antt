@@ -7,7 +7,7 @@ use lib.ListN.{length, take, drop, replicate}
 use Rattle.scalar.specs.Scalar.{addOf, sraOf, modZ}
 use Rattle.bits.specs.Bits.{bitAt, bytesFor}
 use Rattle.bits.specs.Lay.{lay}
-use Rattle.ask.specs.Ask.{firstNo}
+use Rattle.ask.specs.Ask.{Answer, accepted, firstNo, asked}
 use Rattle.calls.specs.Arguments.{eight, Settings, Rows, Plane, planeAt, PerStream}
 use Rattle.calls.specs.ReadPlane.{BlockRead, Blocks, badBlocks, blocks, readBlocks, DcStep, DcSteps, badSteps, dcSteps, readSteps, predicted}
 use Rattle.calls.specs.Grid.{columnsOf, blocksOf, level}
@@ -73,22 +73,12 @@ blockReport stride report ac at =
 
 -- ---- size
 
-pub record Sized : Type 0 where
-  pub number : ℕ
-  pub lengths : PerStream
-
-abbrev pub nothing : PerStream
-nothing = record { dc = 0; ac = 0 }
-
-abbrev pub sizedBy : ℕ → PerStream → Sized
-sizedBy zero lengths = record { number = 0; lengths = lengths }
-sizedBy (suc n) lengths = record { number = suc n; lengths = nothing }
-
-unfoldable pub planeSize : ℕ → Sized
-planeSize stride = sizedBy (firstNo (planeSizeQuestions stride)) (lengthsAtMost stride)
+-- "a size call, a length that each stream is at most"
+unfoldable pub planeSize : ℕ → Answer PerStream
+planeSize stride = asked (planeSizeQuestions stride) (accepted (lengthsAtMost stride))
 
 abbrev pub lengthsOfAll : List Plane → PerStream
-lengthsOfAll [] = nothing
+lengthsOfAll [] = record { dc = 0; ac = 0 }
 lengthsOfAll (p ∷ ps) = together (lengthsAtMost (p .stride)) (lengthsOfAll ps)
 
 -- the size call names planes by their strides
@@ -99,5 +89,6 @@ ofStride place stride = record { place = place; stride = stride; samples = [] }
 abbrev pub firstOfFour : ℕ → ℕ → ℕ → ℕ → ℕ → List Plane
 firstOfFour n s0 s1 s2 s3 = take n (ofStride 0 s0 ∷ ofStride 1 s1 ∷ ofStride 2 s2 ∷ ofStride 3 s3 ∷ [])
 
-unfoldable pub sliceSize : ℕ → ℕ → ℕ → ℕ → ℕ → Sized
-sliceSize n s0 s1 s2 s3 = sizedBy (firstNo (sliceSizeQuestions n (firstOfFour n s0 s1 s2 s3))) (lengthsOfAll (firstOfFour n s0 s1 s2 s3))
+unfoldable pub sliceSize : ℕ → ℕ → ℕ → ℕ → ℕ → Answer PerStream
+sliceSize n s0 s1 s2 s3 =
+    asked (sliceSizeQuestions n (firstOfFour n s0 s1 s2 s3)) (accepted (lengthsOfAll (firstOfFour n s0 s1 s2 s3)))

@@ -1,42 +1,26 @@
 -- The calls of the inverse half, joined; and that each sample fits its type.
-use mathlib.Core.Path.{_≡_, refl, sym, ap, _∙_}
-use mathlib.Core.Bool.{Bool, true, false}
+use mathlib.Core.Path.{_≡_, sym, ap, _∙_}
+use mathlib.Core.Bool.{Bool}
 use mathlib.Core.List.{List}
-use Prim.Native.Nat.{ℕ, _<_, _/_}
-use native.Mathlib.Omega.{arith}
-use lib.IntN.{ℤ, pos, negsuc}
-use lib.ListN.{getD}
-use Rattle.scalar.specs.Scalar.{addsOf, mulloOf, sraOf}
-use Rattle.scalar.proofs.Fill.{getD-tab, tab-ext}
+use Prim.Native.Nat.{ℕ, _<_}
+use lib.IntN.{ℤ, pos}
+use Rattle.scalar.specs.Scalar.{addsOf}
+use Rattle.scalar.proofs.Fill.{getD-tab}
 use Rattle.irow.specs.RowPass.{lane}
-use Rattle.irow.specs.Stages.{shiftedOf}
+use Rattle.irow.specs.Stages.{pairUpOf}
 use Rattle.paint.specs.Paint.{storeBlock, sampleInBlock}
 use Rattle.paint.specs.Samples.{sampleOf}
 use Rattle.paint.proofs.Pixels.{store-ext}
-use Rattle.quant.specs.Quantise.{coefficient, dequantised, dequantiseWith, dequantShift, dequantiseOf}
+use Rattle.quant.specs.Quantise.{dequantiseWith, dequantShift, dequantiseOf}
 use Rattle.idct.specs.columns.Columns.{levelAddedOf}
-use Rattle.idct.specs.Inverse.{inverseOf, samplesOf}
-use Rattle.idct.proofs.Bounds.{sample-at, sample-lt, sampleTop, level-law}
+use Rattle.idct.specs.Inverse.{inverseOf, inverseOfPaired, samplesOf}
+use Rattle.idct.proofs.Bounds.{sample-at, sample-lt, sampleTop, level-law, paired-law}
 use Rattle.dct.specs.Decode.{blockSample, numberSample}
 
--- ---- dequantising: the shift after the products
-
-no-shift : (z : ℤ) → sraOf z 0 ≡ z
-unfolding sraOf
-no-shift (pos n) = ap pos (omega arith)
-no-shift (negsuc n) = ap negsuc (omega arith)
-
-shifted-law : (n : ℕ) (d : List ℕ) (nat : List ℤ) → shiftedOf n (dequantiseWith 0 d nat) ≡ dequantiseWith n d nat
-unfolding shiftedOf dequantiseWith dequantised
-shifted-law n d nat =
-    tab-ext 64
-    (λ i h.
-    ap (λ (z : ℤ). sraOf z n)
-    (getD-tab 64 (λ i. sraOf (mulloOf (coefficient nat i) (pos (getD d i 0))) 0) i (pos 0) h ∙ no-shift (mulloOf (coefficient nat i) (pos (getD d i 0)))))
-
-pub core-law : (ten : Bool) (d : List ℕ) (nat : List ℤ) {n : ℕ} {a r : List ℤ} → a ≡ dequantiseWith 0 d nat → n ≡ dequantShift ten → r ≡ inverseOf ten (pos 0) (shiftedOf n a)
+-- dequantising, then the transform
+pub core-law : (ten : Bool) (d : List ℕ) (nat : List ℤ) {b r : List ℤ} → b ≡ pairUpOf (dequantiseWith (dequantShift ten) d nat) → r ≡ inverseOfPaired ten b
     → r ≡ inverseOf ten (pos 0) (dequantiseWith (dequantShift ten) d nat)
-core-law ten d nat ea en er = rw (er, en, ea, shifted-law (dequantShift ten) d nat) refl
+core-law ten d nat eb er = er ∙ ap (inverseOfPaired ten) eb ∙ paired-law ten (dequantiseWith (dequantShift ten) d nat)
 
 -- ---- samples
 
@@ -66,7 +50,3 @@ block-law ten stride preset level nat l {v} e =
 pub block-sample-lt : (ten : Bool) (preset : ℕ) (level : ℤ) (nat : List ℤ) (i : ℕ) → blockSample ten preset level nat i < sampleTop ten
 unfolding blockSample
 block-sample-lt ten preset level nat i = sample-lt ten (lane (inverseOf ten level (dequantiseOf ten preset nat)) i)
-
-pub shift-small : (ten : Bool) → dequantShift ten < 16
-shift-small false = omega arith
-shift-small true = omega arith

@@ -1,40 +1,20 @@
-// A block of coefficients becomes 8 by 8 samples in the rows from its corner on: dequantising and the inverse transform (idct_core of
-// dct.rs), then the block writer of a depth. The divisors are those of tables::decode_numbers: a caller makes them once for a plane.
-// idct_core does both depths: where it has one caller, as in reading, the compiler makes it part of it and no block goes through memory.
+// A block of coefficients becomes 8 by 8 samples in the rows from its corner on: dequantising and the inverse transform of a depth
+// (dct::eight, dct::ten), then its block writer. The divisors are those of tables::decode_numbers: a caller makes them once for a plane.
 ghost use mathlib.Core.Path.{_≡_};
 ghost use mathlib.Core.Bool.{true, false};
 ghost use Prim.Native.Nat.{_+_, _*_, _≤_};
-ghost use lib.IntN.{pos};
 ghost use lib.ListN.{length};
 ghost use Rattle.ask.specs.Limits.{strideMax};
 ghost use Rattle.paint.specs.Paint.{storeBlock};
 ghost use Rattle.paint.specs.Samples.{flatSample};
-ghost use Rattle.quant.specs.Quantise.{dequantShift, dequantiseWith};
-ghost use Rattle.idct.specs.Inverse.{inverseOf};
 ghost use Rattle.dct.specs.Decode.{numberSample};
-
-// How far the products of a depth are shifted right.
-fn dequant_shift(ten: bool) -> u32
-    ensures { λ r. ⌜ r ≡ dequantShift ten ⌝ }
-{
-    if ten { 2 } else { 4 }
-}
-
-// The numbers of a block of coefficients in natural order: dequantised by the divisors d and transformed, the level not added.
-pub fn idct_core(nat: [i16; 64], d: &[u16; 64], ten: bool) -> [i16; 64]
-    ensures { λ r. ⌜ r ≡ inverseOf ten (pos 0) (dequantiseWith (dequantShift ten) (now (d .entry)) nat) ⌝ }
-{
-    let a = quant::dequant(nat, d, 0);
-    let n = dequant_shift(ten);
-    idct::inverse(a, n, ten)
-}
 
 // The 8-bit samples of a block's numbers.
 pub fn store8(rows: &mut [u8], stride: usize, v: [i16; 64], level: i16)
     requires { ⌜ (8 ≤ stride) × (stride ≤ strideMax) × (7 * stride + 8 ≤ length (now rows)) ⌝ }
     ensures { λ _. ⌜ now (rows .exit) ≡ storeBlock stride (numberSample false level v) (now (rows .entry)) ⌝ }
 {
-    let p = idct::bytes(v, level);
+    let p = idct::eight::samples(v, level);
     paint::store8(rows, stride, &p);
 }
 
@@ -43,7 +23,7 @@ pub fn store16(rows: &mut [u16], stride: usize, v: [i16; 64], level: i16)
     requires { ⌜ (8 ≤ stride) × (stride ≤ strideMax) × (7 * stride + 8 ≤ length (now rows)) ⌝ }
     ensures { λ _. ⌜ now (rows .exit) ≡ storeBlock stride (numberSample true level v) (now (rows .entry)) ⌝ }
 {
-    let p = idct::words(v, level);
+    let p = idct::ten::samples(v, level);
     paint::store16(rows, stride, &p);
 }
 

@@ -11,7 +11,7 @@ use Rattle.calls.specs.ReadPlane.{BlockRead, PlaneRead, badPlane, planeRead}
 use Rattle.slice.specs.Calls.{PlanesRead, badPlanes, planesRead, planeThen, byPlane, readPlanes}
 use Rattle.blockread.specs.On.{goodPlane}
 use Rattle.judge.specs.Good.{goodPlanes}
-use Rattle.decplane.specs.store.Storing.{planeIn, blocksGot, PlaneGood, PlaneStored}
+use Rattle.decplane.specs.Storing.{planeIn, blocksGot, PlaneGood, PlaneStored}
 
 good-first : (r : PlaneRead) (next : PerStream → PlanesRead) → goodPlanes (byPlane r next) ≡ true → goodPlane r ≡ true
 good-first badPlane next e = e

@@ -7,7 +7,7 @@ use lib.ListN.{take}
 use Rattle.calls.specs.Arguments.{Settings, Rows, Plane, planeAt, oneSlice, PerStream, Buffers}
 use Rattle.calls.specs.ReadPlane.{BlockRead}
 use Rattle.slice.specs.Calls.{PlanesRead, planesRead, rowsMade}
-use Rattle.decplane.specs.store.Storing.{PlaneGood, PlaneStored}
+use Rattle.decplane.specs.Storing.{PlaneGood, PlaneStored}
 use Rattle.decoder.specs.Storing.{planesGot, SliceGood, SliceStored}
 use Rattle.decoder.proofs.InTurn.{all, Going, plane-good, going-on, read-on, read-none}
 

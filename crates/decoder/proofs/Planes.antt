@@ -12,7 +12,7 @@ use Rattle.slice.specs.Calls.{planesRead, byPlane, readPlanes, rowsMade, Decode
 use Rattle.questions.specs.answers.Read.{readTold}
 use Rattle.judge.proofs.verdict.Laws.{passed, refused-is, accepted-is}
 use Rattle.judge.proofs.verdict.Planes.{one-good}
-use Rattle.decplane.specs.store.Storing.{planeIn, PlaneGood, PlaneStored}
+use Rattle.decplane.specs.Storing.{planeIn, PlaneGood, PlaneStored}
 
 module _ (σ : Settings) (p : Plane) (b : Buffers) (at : PerStream) where
   abbrev call : Call

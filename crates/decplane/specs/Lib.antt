@@ -1,1 +1,1 @@
-pub mod store
+pub mod Storing

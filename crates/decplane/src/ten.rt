@@ -1,7 +1,7 @@
 // The storing pass over a 10-bit plane.
 ghost use Rattle.calls.specs.Arguments.{ten, buffers};
 ghost use Rattle.calls.specs.Views.{settingsBy, planeBy, positionsBy};
-ghost use Rattle.decplane.specs.store.Storing.{PlaneGood, PlaneStored};
+ghost use Rattle.decplane.specs.Storing.{PlaneGood, PlaneStored};
 use calls::Positions;
 use calls::Settings;
 use calls::Shape;
@@ -19,6 +19,24 @@ pub fn plane(
     ensures { λ r. ⌜ PlaneStored (settingsBy ten s) (planeBy h (now (rows .entry))) (buffers (now (dc .entry)) (now (ac .entry)))
         (positionsBy at) (positionsBy r) (now (rows .exit)) ⌝ }
 {
-    let mut none = [0u8; 1];
-    crate::store::plane(true, &mut none, rows, h, s, dc, ac, at)
+    let place = h.place;
+    let stride = h.stride;
+    let preset = s.preset;
+    let shift = s.shift;
+    let v = planes::lane10(place);
+    let q = tables::decode_numbers(preset);
+    let z = tables::zigzag_order();
+    let cols = stride / 8;
+    let mut stand = blockread::begin(dc, ac, at);
+    for j in 0..2 {
+        for k in 0..cols {
+            let g = blockread::ten::next_block(dc, ac, stand, shift, &z);
+            let c = planes::corner(stride, j, k);
+            let nat = g.nat;
+            write_block::ten::paint(&mut rows[c..], stride, nat, &q, v);
+            let next = g.next;
+            stand = next;
+        }
+    }
+    blockread::ends(stand)
 }

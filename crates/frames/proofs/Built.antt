@@ -10,10 +10,10 @@ use Rattle.ask.specs.Limits.{shiftMax}
 use Rattle.ask.specs.Ask.{Answer, refused, accepted, andThen}
 use Rattle.bits.specs.Lay.{lay}
 use Rattle.layout.specs.Geometry.{sliceCount}
-use Rattle.parser.specs.Frame.{viewOf}
+use Rattle.parser.specs.Frame.{viewOf, bytesOf}
 use Rattle.builder.specs.Build.{Build, Built, headerSize, headerBytes, countByte, started}
 use Rattle.builder.specs.streams.Put.{allStreams, writeOf}
-use Rattle.frames.specs.Whole.{buildOf, Complete, ofKind, streamAt, bytesOf, frameIn}
+use Rattle.frames.specs.Whole.{buildOf, Complete, ofKind, streamAt, frameIn}
 use Rattle.frames.proofs.Put.{header-length, afterAll, all-at, builds, builds-dc}
 use Rattle.frames.proofs.Views.{none, a-slice, view-back}
 

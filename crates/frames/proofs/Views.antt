@@ -13,11 +13,11 @@ use Rattle.ask.specs.Numbers.{noTurn}
 use Rattle.layout.specs.Geometry.{widthOk, sizeOk, sliceCount, maxDcLen, maxAcLen}
 use Rattle.parser.specs.streams.Streams.{oneStream, streams}
 use Rattle.parser.specs.head.Header.{FrameRead}
-use Rattle.parser.specs.Frame.{dcStreams, nthStream, parseOf, viewOf, wanted}
+use Rattle.parser.specs.Frame.{dcStreams, nthStream, parseOf, viewOf, bytesOf, wanted}
 use Rattle.parser.proofs.Laws.{ac-nth, view-yes, view-beyond, view-unwanted}
 use Rattle.builder.specs.Build.{headerBytes, countByte}
 use Rattle.builder.specs.streams.Put.{streamBytes, allStreams, writeOf}
-use Rattle.frames.specs.Whole.{Within, AllOrNone, Complete, ofKind, streamAt, bytesOf}
+use Rattle.frames.specs.Whole.{Within, AllOrNone, Complete, ofKind, streamAt}
 use Rattle.frames.proofs.Put.{stream-length}
 use Rattle.frames.proofs.Back.{one-read, its-bytes}
 use Rattle.frames.proofs.Read.{readBack, head-length, dc-limit, ac-limit, dc-walked, read-dc, read-both}

@@ -7,7 +7,6 @@ use lib.ListN.{length, take, drop}
 use Rattle.ask.specs.Ask.{Answer, refused, accepted, andThen}
 use Rattle.ask.specs.Numbers.{noTurn}
 use Rattle.layout.specs.Geometry.{sizeOk, sliceCount, maxDcLen, maxAcLen}
-use Rattle.parser.specs.Frame.{View}
 use Rattle.builder.specs.Build.{Build, Built, headerOf}
 use Rattle.builder.specs.streams.Put.{streamOf}
 
@@ -50,11 +49,6 @@ abbrev pub streamAt : List (List ℕ) → ℕ → Answer (List ℕ)
 streamAt [] slice = refused noTurn
 streamAt (s ∷ ss) zero = accepted s
 streamAt (s ∷ ss) (suc slice) = streamAt ss slice
-
--- the bytes of a view, or its refusal
-abbrev pub bytesOf : List ℕ → Answer View → Answer (List ℕ)
-bytesOf f (refused n) = refused n
-bytesOf f (accepted v) = accepted (take (v .size) (drop (v .offset) f))
 
 -- the bytes that the builder's calls put: from where the frame starts up to where the next byte would go
 abbrev pub frameIn : ℕ → Built → List ℕ

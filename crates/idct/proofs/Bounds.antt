@@ -2,28 +2,25 @@
 use mathlib.Core.Path.{_≡_, refl, sym, ap, _∙_}
 use mathlib.Core.Bool.{Bool, true, false}
 use mathlib.Core.List.{List}
-use Prim.Native.Nat.{ℕ, zero, suc, min, _+_, _*_, _/_, _%_, _<_, _≤_}
+use Prim.Native.Nat.{ℕ, min, _*_, _/_, _%_, _<_, _≤_}
 use native.Mathlib.Omega.{arith}
-use lib.Dec.{T, ltb}
-use lib.IntN.{ℤ, pos, negsuc, natAbs}
+use lib.Dec.{ltb}
+use lib.IntN.{ℤ, pos, negsuc}
 use lib.ListN.{length}
-use lib.Signed.{ltZ, nonNeg}
+use lib.Signed.{ltZ}
 use borrow.Author.Tests.{ltb-true, ltb-false, le-ltb}
-use mir.Syntax.{w16, w32}
-use mir.Val.{Fits, sel}
+use mir.Val.{sel}
 use Rattle.scalar.specs.Scalar.{addsOf, packusOf, minOf, maxOf}
 use Rattle.scalar.specs.Tab.{tab}
-use Rattle.scalar.proofs.Laws.{back}
 use Rattle.scalar.proofs.Fill.{length-tab, getD-tab, tab-ext}
 use Rattle.irow.specs.RowPass.{lane, inverseRowsOf}
-use Rattle.irow.specs.Stages.{pairUpOf, shiftedOf, inverseMirrorOf, pairedRows, inverseTab}
-use Rattle.irow.proofs.Pass.{rows-law, shift-law}
+use Rattle.irow.specs.Stages.{pairUpOf, inverseMirrorOf, pairedRows, inverseTab}
+use Rattle.irow.proofs.Pass.{rows-law}
 use Rattle.paint.specs.Samples.{tenOf, sampleOf, flatSample}
 use Rattle.idct.specs.columns.Columns.{eightAt, inverseColumnAt, inverseColumnsOf, levelAddedOf}
 use Rattle.idct.proofs.columns.Mirror.{columns-mirror}
 use Rattle.idct.proofs.columns.Level.{columns-level}
-use Rattle.idct.specs.Inverse.{rowRound, rowShift, colRound, colCorr, colShift, roundingsOf, inverseOf, samplesOf}
-use Rattle.idct.specs.declared.Roundings.{Roundings}
+use Rattle.idct.specs.Inverse.{rowRound, rowShift, colRound, colCorr, colShift, inverseOf, inverseOfPaired, samplesOf}
 use Rattle.paint.specs.Paint.{sampleInBlock}
 
 pub length-columns : (round corr : ℤ) (shift : ℕ) (level : ℤ) (w : List ℤ) → length (inverseColumnsOf round corr shift level w) ≡ 64
@@ -106,29 +103,15 @@ pub level-law : (ten : Bool) (level : ℤ) (a : List ℤ) → levelAddedOf level
 unfolding inverseOf
 level-law ten level a = columns-level (colRound ten) (colCorr ten) (colShift ten) level (inverseRowsOf (rowRound ten) (rowShift ten) a)
 
--- the roundings as a call hands them on: each read back from its bits
-of-rows : (ten : Bool) (k : Roundings) (l t : List ℤ) → k ≡ roundingsOf ten → pairedRows (back w32 (k .«row_round»)) (k .«row_shift») l t ≡ pairedRows (rowRound ten) (rowShift ten) l t
-of-rows false k l t e = rw e refl
-of-rows true k l t e = rw e refl
+-- the code's stages, of a block whose rows were put in pairs, are the two passes
+pub paired-law : (ten : Bool) (a : List ℤ) → inverseOfPaired ten (pairUpOf a) ≡ inverseOf ten (pos 0) a
+unfolding inverseOfPaired inverseOf
+paired-law ten a =
+    ap (λ (w : List ℤ). inverseMirrorOf (inverseColumnsOf (colRound ten) (colCorr ten) (colShift ten) (pos 0) w)) (rows-law (rowRound ten) (rowShift ten) a)
+    ∙ columns-mirror (colRound ten) (colCorr ten) (colShift ten) (pos 0) (inverseRowsOf (rowRound ten) (rowShift ten) a)
 
-of-columns : (ten : Bool) (k : Roundings) (level : ℤ) (l : List ℤ) → k ≡ roundingsOf ten
-    → inverseColumnsOf (back w16 (k .round)) (back w16 (k .corr)) (k .shift) level l ≡ inverseColumnsOf (colRound ten) (colCorr ten) (colShift ten) level l
-of-columns false k level l e = rw e refl
-of-columns true k level l e = rw e refl
-
--- the passes in order
-pub whole : (ten : Bool) (n : ℕ) (a : List ℤ) (k : Roundings) {b w v r : List ℤ} → k ≡ roundingsOf ten → b ≡ pairUpOf a
-    → w ≡ pairedRows (back w32 (k .«row_round»)) (k .«row_shift») (shiftedOf n b) inverseTab → v ≡ inverseColumnsOf (back w16 (k .round)) (back w16 (k .corr)) (k .shift) (pos 0) w → r ≡ inverseMirrorOf v
-    → r ≡ inverseOf ten (pos 0) (shiftedOf n a)
-unfolding inverseOf
-whole ten n a k {b} {w} ek eb ew ev er =
-    rw (er, ev, of-columns ten k (pos 0) w ek, ew, of-rows ten k (shiftedOf n b) inverseTab ek, eb, shift-law n a, rows-law (rowRound ten) (rowShift ten) (shiftedOf n a))
-    (columns-mirror (colRound ten) (colCorr ten) (colShift ten) (pos 0) (inverseRowsOf (rowRound ten) (rowShift ten) (shiftedOf n a)))
-
-pub row-small : (ten : Bool) → rowShift ten < 32
-row-small false = omega arith
-row-small true = omega arith
-
-pub col-small : (ten : Bool) → colShift ten < 16
-col-small false = omega arith
-col-small true = omega arith
+-- the calls of a depth's inverse in order
+pub passes : (ten : Bool) (b : List ℤ) {w v r : List ℤ} → w ≡ pairedRows (rowRound ten) (rowShift ten) b inverseTab
+    → v ≡ inverseColumnsOf (colRound ten) (colCorr ten) (colShift ten) (pos 0) w → r ≡ inverseMirrorOf v → r ≡ inverseOfPaired ten b
+unfolding inverseOfPaired
+passes ten b ew ev er = rw (er, ev, ew) refl

@@ -1,2 +1,4 @@
 pub mod Bounds
 pub mod Examples
+pub mod column
+pub mod columns

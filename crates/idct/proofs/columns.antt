@@ -1,3 +1,3 @@
-pub mod Turn
 pub mod Mirror
 pub mod Level
+pub mod Joined

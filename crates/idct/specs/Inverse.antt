@@ -5,9 +5,9 @@ use Prim.Native.Nat.{ℕ}
 use lib.IntN.{ℤ, pos}
 use Rattle.scalar.specs.Tab.{tab}
 use Rattle.irow.specs.RowPass.{lane, inverseRowsOf}
+use Rattle.irow.specs.Stages.{inverseTab, inverseMirrorOf, pairedRows}
 use Rattle.paint.specs.Samples.{sampleOf}
 use Rattle.idct.specs.columns.Columns.{inverseColumnsOf}
-use Rattle.idct.specs.declared.Roundings.{Roundings}
 
 abbrev pub rowRound : Bool → ℤ
 rowRound false = pos 1024
@@ -30,13 +30,13 @@ abbrev pub colShift : Bool → ℕ
 colShift false = 6
 colShift true = 5
 
--- all of a depth, as the code has them
-abbrev pub roundingsOf : Bool → Roundings
-roundingsOf ten = record { «row_round» = rowRound ten; «row_shift» = rowShift ten; round = colRound ten; corr = colCorr ten; shift = colShift ten }
-
 -- 64 dequantised coefficients in natural order become 64 numbers, level added, not clamped
 unfoldable pub inverseOf : Bool → ℤ → List ℤ → List ℤ
 inverseOf ten level a = inverseColumnsOf (colRound ten) (colCorr ten) (colShift ten) level (inverseRowsOf (rowRound ten) (rowShift ten) a)
+
+-- the same by the stages of the code, on a block whose rows stand in the order 0 2 1 3 4 6 5 7; the level is not added
+unfoldable pub inverseOfPaired : Bool → List ℤ → List ℤ
+inverseOfPaired ten b = inverseMirrorOf (inverseColumnsOf (colRound ten) (colCorr ten) (colShift ten) (pos 0) (pairedRows (rowRound ten) (rowShift ten) b inverseTab))
 
 -- the samples of a block's numbers
 unfoldable pub samplesOf : Bool → List ℤ → List ℕ

@@ -1,2 +1,4 @@
-pub mod Place
 pub mod Pass
+pub mod Place
+pub mod Turn
+pub mod sums

@@ -7,19 +7,16 @@ use Prim.Native.Nat.{ℕ, zero, suc, _+_, _-_, _*_, _/_, _%_, _<_, _≤_}
 use native.Mathlib.Omega.{arith}
 use lib.Dec.{ltb}
 use lib.IntN.{ℤ, pos, _+ℤ_, _-ℤ_, _*ℤ_, +ℤ-comm}
-use lib.ListN.{length}
 use borrow.Author.Tests.{ltb-true, ltb-false, lt-ltb, le-ltb}
-use Rattle.scalar.specs.Scalar.{wrap32, sraOf, maddOf}
-use Rattle.scalar.specs.Tab.{tab}
-use Rattle.scalar.proofs.Fill.{length-tab, getD-tab, tab-ext}
+use Rattle.scalar.specs.Scalar.{wrap32, maddOf}
+use Rattle.scalar.proofs.Fill.{getD-tab, tab-ext}
 use Rattle.scalar.proofs.InRows.{row-of, col-of}
-use Rattle.irow.specs.pairs.Pairs.{spreadPlace, inverseSpreadOf, inversePairsOf, evensOf, oddsOf}
-use Rattle.irow.specs.declared.pairs.Two.{Two}
+use Rattle.irow.specs.pairs.Pairs.{spreadPlace, inverseSpreadOf, inversePairsOf, spreadBy}
 use Rattle.irow.specs.sums.Sums.{inverseLaneOf, inverseHalfOf, sideOf, rowsFrom}
+use Rattle.irow.proofs.pairs.Orders.{spread-0, spread-4, spread-2, spread-6}
 use Rattle.irow.proofs.sums.Sums.{left-is, right-is, half-at}
 use Rattle.irow.specs.RowPass.{lane, rowTab, pairSum, evenSum, oddSum, roundedSum, pickZ, rowLane, inverseRowsOf}
-use Rattle.irow.specs.Stages.{pairedPlace, pairUpOf, shiftedOf, groupOf, inverseTab, mirrorPlace, inverseMirrorOf, pairedRows}
-use Rattle.irow.proofs.Place.{pair-lt}
+use Rattle.irow.specs.Stages.{pairedPlace, pairUpOf, groupOf, inverseTab, inverseMirrorOf, pairedRows}
 
 -- ---- the factors
 
@@ -173,24 +170,12 @@ module _ (round : ℤ) (shift : ℕ) (a : List ℤ) where
   unfolding pairedRows sideOf inverseMirrorOf
   rows-law = tab-ext 64 (λ i h. either (i / 8) (i % 8) (ltb (i % 8) 4) (omega arith) (omega arith) refl)
 
--- ---- the shift, before or after pair_up
-
-shift-at : (n : ℕ) (a : List ℤ) (i : ℕ) → i < 64 → lane (shiftedOf n a) i ≡ sraOf (lane a i) n
-unfolding shiftedOf
-shift-at n a i h = getD-tab 64 (λ i. sraOf (lane a i) n) i (pos 0) h
-
-pub shift-law : (n : ℕ) (a : List ℤ) → shiftedOf n (pairUpOf a) ≡ pairUpOf (shiftedOf n a)
-unfolding pairUpOf shiftedOf
-shift-law n a =
-    tab-ext 64
-    (λ i h.
-    let k : pairedPlace (i % 8) < 8 = pair-lt (i % 8) (omega arith) in
-    ap (λ (z : ℤ). sraOf z n) (getD-tab 64 (λ i. lane a (8 * (i / 8) + pairedPlace (i % 8))) i (pos 0) h)
-    ∙ sym (shift-at n a (8 * (i / 8) + pairedPlace (i % 8)) (omega arith)))
-
 -- ---- the calls of paired_rows in order
 
-pub paired-law : (round : ℤ) (shift : ℕ) (a b t : List ℤ) (e o : Two) {w : List ℤ} → t ≡ inverseTab → b ≡ a → e ≡ evensOf b t → o ≡ oddsOf b t
-    → w ≡ rowsFrom round shift (e .near) (e .far) (o .near) (o .far) → w ≡ pairedRows round shift a inverseTab
+pub paired-law : (round : ℤ) (shift : ℕ) (b t : List ℤ) {x0 x1 x2 x3 m0 m1 m2 m3 w : List ℤ} → t ≡ inverseTab
+    → x0 ≡ spreadBy b 136 → m0 ≡ inversePairsOf x0 t 0 → x1 ≡ spreadBy b 34 → m1 ≡ inversePairsOf x1 t 64
+    → x2 ≡ spreadBy b 221 → m2 ≡ inversePairsOf x2 t 128 → x3 ≡ spreadBy b 119 → m3 ≡ inversePairsOf x3 t 192
+    → w ≡ rowsFrom round shift m0 m1 m2 m3 → w ≡ pairedRows round shift b inverseTab
 unfolding pairedRows
-paired-law round shift a b t e o et eb ee eo ew = rw (ew, ee, eo, et, eb) refl
+paired-law round shift b t et e0 p0 e1 p1 e2 p2 e3 p3 ew =
+    rw (ew, p0, p1, p2, p3, e0, e1, e2, e3, et, spread-0 b, spread-4 b, spread-2 b, spread-6 b) refl

@@ -1,1 +1,1 @@
-mod Joined
+pub mod Orders

@@ -1,11 +1,10 @@
 -- The stages by which the code makes the row pass: loops over whole blocks, so that they run on vectors.
-use mathlib.Core.Bool.{Bool, true, false, cond}
+use mathlib.Core.Bool.{cond}
 use mathlib.Core.List.{List, [], _∷_}
 use Prim.Native.Nat.{ℕ, _+_, _-_, _*_, _/_, _%_}
 use lib.Dec.{ltb}
 use lib.IntN.{ℤ}
 use lib.ListN.{getD}
-use Rattle.scalar.specs.Scalar.{sraOf}
 use Rattle.scalar.specs.Tab.{tab}
 use Rattle.irow.specs.pairs.Pairs.{inverseSpreadOf, inversePairsOf}
 use Rattle.irow.specs.sums.Sums.{rowsFrom}
@@ -17,10 +16,6 @@ pairedPlace k = getD (0 ∷ 2 ∷ 1 ∷ 3 ∷ 4 ∷ 6 ∷ 5 ∷ 7 ∷ []) k 0
 
 unfoldable pub pairUpOf : List ℤ → List ℤ
 pairUpOf a = tab 64 (λ i. lane a (8 * (i / 8) + pairedPlace (i % 8)))
-
--- each number shifted right
-unfoldable pub shiftedOf : ℕ → List ℤ → List ℤ
-shiftedOf n a = tab 64 (λ i. sraOf (lane a i) n)
 
 -- the rows' tables, for four blocks of spread rows: in block s, number c is multiplied by the table's group groupOf s c
 -- (0: 0 and 2, 1: 4 and 6, 2: 1 and 3, 3: 5 and 7)

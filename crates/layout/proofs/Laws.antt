@@ -8,7 +8,7 @@ use lib.Dec.{leb, ltb, eqb}
 use borrow.Author.Tests.{lt-ltb, le-ltb, leb-true}
 use Rattle.ask.specs.Ask.{refused, accepted, firstNo, asked, byNumber}
 use Rattle.ask.specs.Limits.{sideMin, widthMax, heightMax}
-use Rattle.layout.specs.Geometry.{widthOk, heightOk, sizeOk, sizeQuestion, alignedHeight, geometryOf, layoutOf, rowIf, imageRowOf}
+use Rattle.layout.specs.Geometry.{widthOk, heightOk, sizeOk, sizeQuestion, ofSize, alignedHeight, rowIf, imageRowOf}
 
 -- ---- the size
 and-left : (a b : Bool) → a && b ≡ true → a ≡ true
@@ -44,25 +44,25 @@ sized-alone w h e k = go (sizeOk w h) refl
     go true x = sized w h x
     go false x = absurd (let z = rw x at e in omega arith)
 
-module _ (w h : ℕ) {n : ℕ} (e : n ≡ firstNo (sizeQuestion w h ∷ [])) where
-  pub fits : n ≤ 0 → layoutOf w h ≡ accepted (geometryOf w h)
-  unfolding layoutOf asked
+module _ {A : Type 0} (w h : ℕ) (a : A) {n : ℕ} (e : n ≡ firstNo (sizeQuestion w h ∷ [])) where
+  pub fits : n ≤ 0 → ofSize w h a ≡ accepted a
+  unfolding ofSize asked
   fits k = let z : firstNo (sizeQuestion w h ∷ []) ≡ 0 = omega arith in rw z
 
-  pub no-size : 0 < n → layoutOf w h ≡ refused n
-  unfolding layoutOf asked
+  pub no-size : 0 < n → ofSize w h a ≡ refused n
+  unfolding ofSize asked
   no-size k = refusal n e k
     where
-      refusal : (m : ℕ) → m ≡ firstNo (sizeQuestion w h ∷ []) → 0 < m → byNumber (firstNo (sizeQuestion w h ∷ [])) (accepted (geometryOf w h)) ≡ refused m
+      refusal : (m : ℕ) → m ≡ firstNo (sizeQuestion w h ∷ []) → 0 < m → byNumber (firstNo (sizeQuestion w h ∷ [])) (accepted a) ≡ refused m
       refusal zero f j = absurd (omega arith)
       refusal (suc m) f j = rw (← f)
 
 -- ---- rows of a field
-module _ (h r half : ℕ) (e : half ≡ alignedHeight h / 2) where
-  pub upper : r < half → (b : Bool) → ltb r (h / 2) ≡ b → imageRowOf h r true ≡ rowIf b (2 * r + 0)
+module _ (h r high : ℕ) (e : high ≡ alignedHeight h) where
+  pub upper : r < high / 2 → (b : Bool) → ltb r (h / 2) ≡ b → imageRowOf h r true ≡ rowIf b (2 * r + 0)
   unfolding imageRowOf
   upper k b t = rw (lt-ltb r (alignedHeight h / 2) (rw e at k), t)
 
-  pub lower : half ≤ r → (b : Bool) → ltb (r - half) (h / 2) ≡ b → imageRowOf h r true ≡ rowIf b (2 * (r - half) + 1)
+  pub lower : high / 2 ≤ r → (b : Bool) → ltb (r - high / 2) (h / 2) ≡ b → imageRowOf h r true ≡ rowIf b (2 * (r - high / 2) + 1)
   unfolding imageRowOf
-  lower k b t = rw (← e, le-ltb r half k, t)
+  lower k b t = rw (← e, le-ltb r (high / 2) k, t)

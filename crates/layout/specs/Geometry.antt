@@ -24,6 +24,10 @@ sizeOk w h = widthOk w && heightOk h
 abbrev pub sizeQuestion : ℕ → ℕ → Question
 sizeQuestion w h = ask (sizeOk w h) noSize
 
+-- what belongs to a size, where that question is answered yes
+unfoldable pub ofSize : {A : Type 0} → ℕ → ℕ → A → Answer A
+ofSize w h a = asked (sizeQuestion w h ∷ []) (accepted a)
+
 -- planes 0 and 3 have the luma stride, planes 1 and 2 the chroma stride
 abbrev pub lumaStride : ℕ → ℕ
 lumaStride w = alignUp w 8
@@ -78,8 +82,8 @@ geometryOf w h =
       maxAcLen = maxAcLen w;
     }
 
-unfoldable pub layoutOf : ℕ → ℕ → Answer Geometry
-layoutOf w h = asked (sizeQuestion w h ∷ []) (accepted (geometryOf w h))
+abbrev pub layoutOf : ℕ → ℕ → Answer Geometry
+layoutOf w h = ofSize w h (geometryOf w h)
 
 -- the image row of a coded row, or none for a padding row
 pub data ImageRow : Type 0 where
@@ -109,3 +113,20 @@ previewWidth w = alignUp (w / 8) 2
 unfoldable pub previewHeight : ℕ → Bool → ℕ
 previewHeight h false = h / 8
 previewHeight h true = h / 8 - h / 8 % 2
+
+pub record PreviewSize : Type 0 where
+  pub width : ℕ
+  pub height : ℕ
+
+abbrev pub previewSize : ℕ → ℕ → Bool → PreviewSize
+previewSize w h interlaced = record { width = previewWidth w; height = previewHeight h interlaced }
+
+-- ---- "the methods of Layout": a size that is refused has no layout, so it has none of these
+abbrev pub interlaceCapableOf : ℕ → ℕ → Answer Bool
+interlaceCapableOf w h = ofSize w h (interlaceCapable h)
+
+abbrev pub layoutRow : ℕ → ℕ → ℕ → Bool → Answer ImageRow
+layoutRow w h r interlaced = ofSize w h (imageRowOf h r interlaced)
+
+abbrev pub previewSizeOf : ℕ → ℕ → Bool → Answer PreviewSize
+previewSizeOf w h interlaced = ofSize w h (previewSize w h interlaced)

@@ -6,7 +6,7 @@ use ask::limits::WIDTH_MAX;
 use ask::numbers::NO_SIZE;
 ghost use mathlib.Core.Path.{_≡_};
 ghost use mathlib.Core.List.{[], _∷_};
-ghost use Prim.Native.Nat.{_/_, _≤_};
+ghost use Prim.Native.Nat.{_≤_};
 ghost use Rattle.ask.specs.Ask.{firstNo};
 ghost use Rattle.ask.specs.Limits.{widthMax, heightMax};
 ghost use Rattle.layout.specs.Geometry.{alignUp, widthOk, heightOk, sizeOk, sizeQuestion, layoutOf};
@@ -60,7 +60,7 @@ pub fn size_ok(width: usize, height: usize) -> bool
 }
 
 // Question 9, put alone: its number, 0 where the answer is yes.
-fn size_number(width: usize, height: usize) -> u32
+pub fn size_number(width: usize, height: usize) -> u32
     ensures { λ r. ⌜ r ≡ firstNo (sizeQuestion width height ∷ []) ⌝ }
 {
     let size = size_ok(width, height);
@@ -153,23 +153,13 @@ pub enum RowAnswer {
     Padding,
 }
 
-// Half of the aligned height, for any height.
-fn half_height(height: usize) -> usize
-    ensures { λ r. ⌜ r ≡ alignedHeight height / 2 ⌝ }
-{
-    if height % ROWS == 0 {
-        height / ROWS * (ROWS / 2)
-    } else {
-        (height / ROWS + 1) * (ROWS / 2)
-    }
-}
-
 // The image row that lies in row r of the coded planes.
 pub fn image_row(height: usize, r: usize, interlaced: bool) -> RowAnswer
+    requires { ⌜ height ≤ heightMax ⌝ }
     ensures { λ a. ⌜ rowSays a ≡ imageRowOf height r interlaced ⌝ }
 {
     if interlaced {
-        let half = half_height(height);
+        let half = aligned_height(height) / 2;
         let fields = height / 2;
         if r < half {
             if r < fields {

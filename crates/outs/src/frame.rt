@@ -20,7 +20,7 @@ ghost use Rattle.builder.specs.Views.{HeaderCall};
 ghost use Rattle.builder.specs.streams.Views.{StreamCall, completeSays};
 ghost use Rattle.builder.specs.declared.Builder.{Builder};
 ghost use Rattle.shown.specs.Shown.{wasAccepted};
-ghost use Rattle.outs.specs.frame.Outs.{isOn, flagOf, isImageRow, rowLeft, handed, handedBy};
+ghost use Rattle.outs.specs.frame.Outs.{isOn, flagOf, handed, handedBy, rowPlaces, rowParts};
 ghost use Rattle.outs.specs.frame.Outs.{layoutPlaces, layoutParts, framePlaces, frameParts, viewPlaces, viewParts, emptyPart};
 ghost use Rattle.outs.specs.frame.Outs.{buildPlaces, buildParts};
 
@@ -78,8 +78,7 @@ pub fn layout_out(
 
 // Of a coded row: whether it is a row of the image, and which one.
 pub fn row_out(answer: RowAnswer, row: &mut usize) -> u32
-    ensures { λ there. ⌜ (there ≡ flagOf (isImageRow (rowSays answer)))
-        × (now (row .exit) ≡ rowLeft (rowSays answer) (now (row .entry))) ⌝ }
+    ensures { λ there. ⌜ rowPlaces there (now (row .exit)) ≡ rowParts (now (row .entry)) (rowSays answer) ⌝ }
 {
     match answer {
         RowAnswer::Padding => 0,

@@ -12,7 +12,8 @@ ghost use Rattle.questions.specs.answers.Size.{sizeSays};
 ghost use Rattle.calls.specs.Told.{content};
 ghost use Rattle.preview.specs.Answer.{previewSays};
 ghost use Rattle.preview.specs.report.Report.{reportSays};
-ghost use Rattle.outs.specs.plane.Planes.{codedAs, decodedAs, previewedAs, reportedAs, sizedAs};
+ghost use Rattle.outs.specs.plane.Planes.{codedAs, decodedAs, previewedAs, reportedAs, lengthPlaces, lengthParts};
+ghost use Rattle.outs.specs.frame.Outs.{handed, handedBy};
 ghost use Rattle.questions.specs.answers.Code.{codeSays};
 ghost use Rattle.questions.specs.answers.Read.{readSays};
 
@@ -75,16 +76,13 @@ pub fn report_out(answer: PlaneEnd, ac_at: &mut usize) -> u32
     }
 }
 
-// Of a size call: both lengths, 0 where it is refused.
+// Of a size call: both lengths; a refusal leaves their places as they were.
 pub fn size_out(answer: SizeAnswer, dc_len: &mut usize, ac_len: &mut usize) -> u32
-    ensures { λ r. ⌜ sizedAs r (now («dc_len» .exit)) (now («ac_len» .exit)) ≡ sizeSays answer ⌝ }
+    ensures { λ r. ⌜ handed r (lengthPlaces (now («dc_len» .exit)) (now («ac_len» .exit)))
+        ≡ handedBy (sizeSays answer) lengthParts (lengthPlaces (now («dc_len» .entry)) (now («ac_len» .entry))) ⌝ }
 {
     match answer {
-        SizeAnswer::Refused(n) => {
-            *dc_len = 0;
-            *ac_len = 0;
-            n
-        }
+        SizeAnswer::Refused(n) => n,
         SizeAnswer::Sized(d, a) => {
             *dc_len = d;
             *ac_len = a;

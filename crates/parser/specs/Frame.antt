@@ -4,7 +4,7 @@ use mathlib.Core.List.{List, [], _∷_}
 use Prim.Native.Nat.{ℕ, _+_}
 use lib.Dec.{ltb}
 use lib.ListN.{length, take, drop}
-use Rattle.ask.specs.Ask.{Answer, refused, accepted, ask, asked, andThen, numberIn}
+use Rattle.ask.specs.Ask.{Answer, refused, accepted, ask, asked, andThen}
 use Rattle.ask.specs.Numbers.{noTurn}
 use Rattle.layout.specs.Geometry.{sliceCount, maxDcLen, maxAcLen}
 use Rattle.parser.specs.streams.Streams.{lengthAt, oneStream, streams}
@@ -63,10 +63,10 @@ viewOf w h f ac slice =
     asked (ask (ltb slice (sliceCount h) && wanted ac r) noTurn ∷ [])
     (kindView ac w h f slice))
 
--- "A refusal yields the number, .. an empty part for a view"
-abbrev pub viewPart : List ℕ → Answer View → List ℕ
-viewPart f (refused n) = []
-viewPart f (accepted v) = take (v .size) (drop (v .offset) f)
+-- "For a slice number the stream is handed back as that part of the caller's frame": the bytes of the view
+abbrev pub bytesOf : List ℕ → Answer View → Answer (List ℕ)
+bytesOf f (refused n) = refused n
+bytesOf f (accepted v) = accepted (take (v .size) (drop (v .offset) f))
 
 -- what a call hands out: the number, and that part of the frame
 pub record Viewed : Type 0 where
@@ -76,5 +76,7 @@ pub record Viewed : Type 0 where
 abbrev pub viewedAs : ℕ → List ℕ → Viewed
 viewedAs n part = record { number = n; part = part }
 
-abbrev pub viewHanded : List ℕ → Answer View → Viewed
-viewHanded f a = viewedAs (numberIn a) (viewPart f a)
+-- "A refusal yields the number, .. an empty part for a view"
+abbrev pub viewHanded : Answer (List ℕ) → Viewed
+viewHanded (refused n) = viewedAs n []
+viewHanded (accepted part) = viewedAs 0 part

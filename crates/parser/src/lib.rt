@@ -18,7 +18,7 @@ ghost use Rattle.ask.specs.Numbers.{noTurn};
 ghost use Rattle.layout.specs.Views.{isAc};
 ghost use Rattle.parser.specs.streams.Streams.{streams};
 ghost use Rattle.parser.specs.streams.Views.{placeSays};
-ghost use Rattle.parser.specs.Frame.{parseOf, nthStream, viewOf, viewedAs, viewHanded};
+ghost use Rattle.parser.specs.Frame.{parseOf, nthStream, viewOf, bytesOf, viewedAs, viewHanded};
 ghost use Rattle.parser.specs.Views.{frameSays, viewSays};
 
 pub enum FrameAnswer {
@@ -135,7 +135,7 @@ pub fn stream<'a>(
     number: &mut u32,
 ) -> &'a [u8]
     ensures { λ r. ⌜ viewedAs (now (number .exit)) (now r)
-        ≡ viewHanded (now (frame .entry)) (viewOf width height (now (frame .entry)) (isAc kind) slice) ⌝ }
+        ≡ viewHanded (bytesOf (now (frame .entry)) (viewOf width height (now (frame .entry)) (isAc kind) slice)) ⌝ }
 {
     match view_at(width, height, frame, kind, slice) {
         ViewAnswer::Refused(x) => {

@@ -59,39 +59,22 @@ pub extern "C" fn probe_blocks_forward16(
     }
 }
 
-// The samples of a block's numbers, stored from c on where the rows of its depth are long enough.
-fn put(
-    deep: bool,
-    rows8: &mut [u8],
-    rows16: &mut [u16],
-    c: usize,
-    stride: usize,
-    v: [i16; 64],
-    level: i16,
-)
+// The 8-bit samples of a block's numbers, stored from c on where the rows are long enough.
+fn put8(rows: &mut [u8], c: usize, stride: usize, v: [i16; 64], level: i16)
     requires { ⌜ (8 ≤ stride) × (stride ≤ strideMax) × (c ≤ strideMax) ⌝ }
 {
-    if deep {
-        if c + (7 * stride + 8) <= rows16.len() {
-            dct::inverse::store16(&mut rows16[c..], stride, v, level);
-        }
-    } else {
-        if c + (7 * stride + 8) <= rows8.len() {
-            dct::inverse::store8(&mut rows8[c..], stride, v, level);
-        }
+    if c + (7 * stride + 8) <= rows.len() {
+        dct::inverse::store8(&mut rows[c..], stride, v, level);
     }
 }
 
-// Dequantising, inverse transform and store of one block of coefficients over a row of blocks. One loop for both depths, as in
-// reading: the transform has one caller. The rows of the other depth are not looked at.
-fn inverse(
-    deep: bool,
+// Dequantising, inverse transform and store of one block of coefficients over a row of 8-bit blocks.
+#[no_mangle]
+pub extern "C" fn probe_blocks_inverse8(
     nat: &[i16],
     preset: usize,
-    rows8: &mut [u8],
-    rows16: &mut [u16],
+    rows: &mut [u8],
     stride: usize,
-    level: i16,
 ) {
     if ask::limits::PRESET_MAX < preset {
         return;
@@ -104,21 +87,18 @@ fn inverse(
     }
     let d = tables::decode_numbers(preset);
     for i in 0..stride / 8 {
-        let v = dct::inverse::idct_core(block(nat), &d, deep);
-        put(deep, rows8, rows16, 8 * i, stride, v, level);
+        let v = dct::eight::idct_core(block(nat), &d);
+        put8(rows, 8 * i, stride, v, 128);
     }
 }
 
-// Dequantising, inverse transform and store of one block of coefficients over a row of 8-bit blocks.
-#[no_mangle]
-pub extern "C" fn probe_blocks_inverse8(
-    nat: &[i16],
-    preset: usize,
-    rows: &mut [u8],
-    stride: usize,
-) {
-    let mut none = [0u16; 1];
-    inverse(false, nat, preset, rows, &mut none, stride, 128);
+// The 10-bit samples of a block's numbers, stored from c on where the rows are long enough.
+fn put16(rows: &mut [u16], c: usize, stride: usize, v: [i16; 64], level: i16)
+    requires { ⌜ (8 ≤ stride) × (stride ≤ strideMax) × (c ≤ strideMax) ⌝ }
+{
+    if c + (7 * stride + 8) <= rows.len() {
+        dct::inverse::store16(&mut rows[c..], stride, v, level);
+    }
 }
 
 // The same for 10-bit samples.
@@ -129,6 +109,18 @@ pub extern "C" fn probe_blocks_inverse16(
     rows: &mut [u16],
     stride: usize,
 ) {
-    let mut none = [0u8; 1];
-    inverse(true, nat, preset, &mut none, rows, stride, 512);
+    if ask::limits::PRESET_MAX < preset {
+        return;
+    }
+    if stride < 8 {
+        return;
+    }
+    if ask::limits::STRIDE_MAX < stride {
+        return;
+    }
+    let d = tables::decode_numbers(preset);
+    for i in 0..stride / 8 {
+        let v = dct::ten::idct_core(block(nat), &d);
+        put16(rows, 8 * i, stride, v, 512);
+    }
 }

@@ -6,5 +6,7 @@ pub mod of_bitacc;
 pub mod of_bitreader;
 pub mod of_dct;
 pub mod of_lanes;
+pub mod of_lent;
+pub mod of_parts;
 pub mod of_shuffles;
 pub mod of_tables;

@@ -49,7 +49,7 @@ pub extern "C" fn probe_dct_inverse8(
         return;
     }
     let d = tables::decode_numbers(preset);
-    let v = dct::inverse::idct_core(block(nat), &d, false);
+    let v = dct::eight::idct_core(block(nat), &d);
     dct::inverse::store8(rows, stride, v, level);
 }
 
@@ -75,7 +75,7 @@ pub extern "C" fn probe_dct_inverse16(
         return;
     }
     let d = tables::decode_numbers(preset);
-    let v = dct::inverse::idct_core(block(nat), &d, true);
+    let v = dct::ten::idct_core(block(nat), &d);
     dct::inverse::store16(rows, stride, v, level);
 }
 

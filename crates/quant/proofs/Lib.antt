@@ -4,3 +4,4 @@ pub mod Bounds
 mod Entry
 mod Unsigned
 pub mod Vectors
+mod Paired

@@ -1,3 +1,4 @@
 pub mod Quantise
 pub mod one
 pub mod scan
+pub mod Paired

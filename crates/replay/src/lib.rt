@@ -34,6 +34,14 @@ pub fn widened(x: u16) -> u32 {
     x as u32
 }
 
+// A number of four bytes, the low one first; 0 past the record's end.
+pub fn number32(b: &[u8], at: usize) -> u32 {
+    if 60000 < at {
+        return 0;
+    }
+    widened(number(b, at)) | (widened(number(b, at + 2)) << 16)
+}
+
 // A sample of 16 bits whose two bytes are b.
 pub fn twice(b: u8) -> u16 {
     unsigned(b) | (unsigned(b) << 8)

@@ -10,6 +10,7 @@ use replay::byte32;
 use replay::part;
 use replay::size;
 use replay::wide;
+use vmx::container::vmx_stream;
 
 pub const LENGTH: usize = 148;
 // The streams that the table lent for them has room for: two for each slice, and two more.
@@ -17,7 +18,7 @@ const VIEWS: usize = 2 * SLICES_MAX + 2;
 // Two numbers for each.
 const TABLE: usize = 2 * VIEWS;
 
-fn flag(x: bool) -> u8 {
+pub fn flag(x: bool) -> u8 {
     if x { 1 } else { 0 }
 }
 
@@ -76,6 +77,46 @@ fn place(b: &Record, width: usize, height: usize, frame: &[u8]) -> bool {
     }
 }
 
+// The stream itself, a part of the frame: its bytes; none where it is refused.
+fn stream(b: &Record, width: usize, height: usize, frame: &[u8]) -> bool {
+    let kind = kind_of(b[5] == 1);
+    let mut number = 255;
+    let s = parser::stream(width, height, frame, kind, wide(b[6]), &mut number);
+    same_bytes(b, number, s, part(frame, wide(b[14]), wide(b[15])))
+}
+
+fn same_bytes(b: &Record, number: u32, s: &[u8], stored: &[u8]) -> bool {
+    if number != byte32(b[13]) {
+        return false;
+    }
+    if s.len() != stored.len() {
+        return false;
+    }
+    replay::holds_stored(s, 0, 0, s.len(), stored)
+}
+
+// The exported call: where the stream lies.
+fn exported(b: &Record, width: usize, height: usize, frame: &[u8]) -> bool {
+    let mut offset = 7usize;
+    let mut len = 7usize;
+    let x = vmx_stream(
+        width,
+        height,
+        frame,
+        byte32(b[5]),
+        wide(b[6]),
+        &mut offset,
+        &mut len,
+    );
+    if x != byte32(b[13]) {
+        return false;
+    }
+    if offset != wide(b[14]) {
+        return false;
+    }
+    len == wide(b[15])
+}
+
 // A view in a table of all views.
 fn same_view(b: &Record, view: usize, table: &[u32; TABLE]) -> bool {
     if VIEWS <= view {
@@ -122,5 +163,7 @@ pub fn holds(b: &Record) -> bool {
     let frame = part(b, 20, wide(b[4]));
     header(b, width, height, frame)
         && place(b, width, height, frame)
+        && stream(b, width, height, frame)
+        && exported(b, width, height, frame)
         && tabled(b, width, height, frame)
 }

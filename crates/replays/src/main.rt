@@ -1,14 +1,17 @@
 // Replays the Rust's answers. data/ has a file for each part, of records of one length (oracle/ANSWERS.md); each record's answer
 // is computed anew and compared, and the counts of each part are written.
 mod arguments;
-mod bits;
 mod built;
-mod dct;
 mod frames;
-mod lanes;
-mod planes;
+mod layouts;
+mod limits;
+mod of_bits;
+mod of_dct;
+mod of_lanes;
+mod of_planes;
+mod of_tables;
+mod pictures;
 mod reads;
-mod tables;
 
 use replay::Record;
 
@@ -18,36 +21,45 @@ enum Part {
     Dct,
     Frames,
     Lanes,
+    Layouts,
+    Limits,
     Planes,
     Reads,
+    Shown,
     Tables,
 }
 
 // The length of a part's records.
 fn length_of(p: Part) -> usize {
     match p {
-        Part::Bits => bits::LENGTH,
+        Part::Bits => of_bits::LENGTH,
         Part::Built => built::LENGTH,
-        Part::Dct => dct::LENGTH,
+        Part::Dct => of_dct::LENGTH,
         Part::Frames => frames::LENGTH,
-        Part::Lanes => lanes::LENGTH,
-        Part::Planes => planes::LENGTH,
+        Part::Lanes => of_lanes::LENGTH,
+        Part::Layouts => layouts::LENGTH,
+        Part::Limits => limits::LENGTH,
+        Part::Planes => of_planes::LENGTH,
         Part::Reads => reads::LENGTH,
-        Part::Tables => tables::LENGTH,
+        Part::Shown => pictures::LENGTH,
+        Part::Tables => of_tables::LENGTH,
     }
 }
 
 // Whether our answer to a record is the Rust's.
 fn holds(p: Part, b: &Record) -> bool {
     match p {
-        Part::Bits => bits::holds(b),
+        Part::Bits => of_bits::holds(b),
         Part::Built => built::holds(b),
-        Part::Dct => dct::holds(b),
+        Part::Dct => of_dct::holds(b),
         Part::Frames => frames::holds(b),
-        Part::Lanes => lanes::holds(b),
-        Part::Planes => planes::holds(b),
+        Part::Lanes => of_lanes::holds(b),
+        Part::Layouts => layouts::holds(b),
+        Part::Limits => limits::holds(b),
+        Part::Planes => of_planes::holds(b),
         Part::Reads => reads::holds(b),
-        Part::Tables => tables::holds(b),
+        Part::Shown => pictures::holds(b),
+        Part::Tables => of_tables::holds(b),
     }
 }
 
@@ -95,8 +107,11 @@ fn inner() {
 fn calls() {
     replayed(Part::Built, b"built");
     replayed(Part::Frames, b"frames");
+    replayed(Part::Layouts, b"layouts");
+    replayed(Part::Limits, b"limits");
     replayed(Part::Planes, b"planes");
     replayed(Part::Reads, b"reads");
+    replayed(Part::Shown, b"shown");
 }
 
 fn main() {

@@ -6,8 +6,6 @@ use crate::arguments::positions;
 use crate::arguments::settings;
 use crate::arguments::shape;
 use acread::through::PlaneEnd;
-use ask::limits::AC_READ_MAX;
-use ask::limits::DC_READ_MAX;
 use questions::answers::ReadAnswer;
 use replay::Asked;
 use replay::Record;
@@ -20,8 +18,12 @@ use replay::position;
 use replay::size;
 
 pub const LENGTH: usize = 808;
-// One byte more than the longest AC stream that may be read.
-const ONES: usize = AC_READ_MAX + 1;
+// Document 01's lengths of the longest streams that may be read, not those of crate ask: a wrong one there is to be seen.
+const LONGEST_DC: usize = 245760;
+
+const LONGEST_AC: usize = 430080;
+// One byte more than the longest AC stream.
+const ONES: usize = LONGEST_AC + 1;
 
 // The DC stream.
 fn dc_of(b: &[u8]) -> &[u8] {
@@ -281,8 +283,8 @@ fn on_long(b: &Record) -> bool {
     on_ones(
         b,
         &ones,
-        longest(DC_READ_MAX, b[3] == 2),
-        longest(AC_READ_MAX, b[3] == 3),
+        longest(LONGEST_DC, b[3] == 2),
+        longest(LONGEST_AC, b[3] == 3),
     )
 }
 

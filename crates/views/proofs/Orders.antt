@@ -1,4 +1,4 @@
--- The question about a table of views at its limit, and its order: it is put before those about the frame.
+-- The question about a table of views at its limit, and its order: it is put after question 9 and before the others about the frame.
 use mathlib.Core.Path.{_≡_, refl}
 use mathlib.Core.Bool.{true}
 use mathlib.Core.List.{List, [], _∷_}
@@ -19,8 +19,8 @@ ofTable l =
 
 -- four numbers a slice
 table-limits : holds ofTable
-    (limits (16 ∷ 16 ∷ 4 ∷ 1 ∷ []) (no 5 2 3 ∷ no 9 0 15 ∷ no 12 3 2 ∷ [])
-    ∷ limits (16 ∷ 17 ∷ 8 ∷ 2 ∷ []) (no 5 2 7 ∷ no 9 0 15 ∷ no 12 3 1 ∷ [])
+    (limits (16 ∷ 16 ∷ 4 ∷ 1 ∷ []) (no 9 0 15 ∷ no 5 2 3 ∷ no 12 3 2 ∷ [])
+    ∷ limits (16 ∷ 17 ∷ 8 ∷ 2 ∷ []) (no 9 0 15 ∷ no 5 2 7 ∷ no 12 3 1 ∷ [])
     ∷ [])
     ≡ true
 unfolding ofTable tabledOf parseOf headerQuestions streams oneStream lengthAt asked firstNo

@@ -5,7 +5,7 @@ use lib.Dec.{leb}
 use lib.ListN.{length}
 use Rattle.ask.specs.Ask.{Answer, Question, ask, asked}
 use Rattle.ask.specs.Numbers.{noRows}
-use Rattle.layout.specs.Geometry.{sliceCount}
+use Rattle.layout.specs.Geometry.{sizeQuestion, sliceCount}
 use Rattle.parser.specs.head.Header.{FrameRead}
 use Rattle.parser.specs.Frame.{parseOf}
 use Rattle.views.specs.both.Table.{allViews, tableLeft}
@@ -14,9 +14,9 @@ use Rattle.views.specs.both.Table.{allViews, tableLeft}
 abbrev pub tableQuestion : ℕ → ℕ → Question
 tableQuestion h room = ask (leb (4 * sliceCount h) room) noRows
 
--- that question, then those about the frame
+-- question 9, and for a size that has a layout that question; then those about the frame
 unfoldable pub tabledOf : ℕ → ℕ → List ℕ → ℕ → Answer FrameRead
-tabledOf w h f room = asked (tableQuestion h room ∷ []) (parseOf w h f)
+tabledOf w h f room = asked (sizeQuestion w h ∷ tableQuestion h room ∷ []) (parseOf w h f)
 
 -- what a call leaves: its answer about the frame, and the lent table
 pub record Views : Type 0 where

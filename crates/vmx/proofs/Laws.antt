@@ -1,15 +1,16 @@
--- Laws of shown rows, and of the call for all streams.
+-- Laws of the parts that are handed back, shown rows and streams, and of the call for all streams.
 use mathlib.Core.Path.{_≡_, refl, ap, _∙_}
 use mathlib.Core.List.{List}
 use Prim.Native.Nat.{ℕ, zero, suc, _*_, _<_}
 use native.Mathlib.Omega.{arith}
 use lib.Dec.{eqb}
-use lib.ListN.{length}
+use lib.ListN.{length, take, drop}
 use Rattle.ask.specs.Ask.{Answer, refused, accepted, firstNo, asked, byNumber}
 use Rattle.shown.specs.Shown.{shownQuestions, shownOf, shownPart, sliceRows, sliceSamples, picked, wasAccepted}
 use Rattle.parser.specs.head.Header.{FrameRead}
+use Rattle.parser.specs.Frame.{View, bytesOf, viewedAs, viewHanded}
 use Rattle.views.specs.Table.{Views, viewsAs}
-use Rattle.outs.specs.frame.Outs.{Handed, handedBy, FramePlaces, frameParts}
+use Rattle.outs.specs.frame.Outs.{Handed, handedBy, FramePlaces, frameParts, viewParts, emptyPart}
 use Rattle.vmx.specs.Frames.{ShownAt, shownAt, partOf, streamsAs, streamsBy}
 
 module _ (stride slice verdict new held : ℕ) where
@@ -30,6 +31,12 @@ shown-part stride slice verdict new held = go (firstNo (shownQuestions stride sl
     go : (n : ℕ) → shownPart (byNumber n (accepted (sliceRows stride slice (picked (wasAccepted verdict) new held)))) ≡ partOf (byNumber n (accepted (record { fromNew = wasAccepted verdict; offset = slice * sliceSamples stride; size = sliceSamples stride }))) new held
     go zero = refl
     go (suc n) = refl
+
+-- the number, and the bytes at the offset and of the length that the exported call hands out, are those that the inner one hands back
+pub stream-part : (f : List ℕ) (a : Answer View)
+    → viewHanded (bytesOf f a) ≡ (let h = handedBy a viewParts emptyPart in viewedAs (h .number) (take (h .places .size) (drop (h .places .offset) f)))
+stream-part f (refused n) = refl
+stream-part f (accepted v) = refl
 
 -- what the call for all streams hands out of the header, and the table, from one answer
 pub streams-handed : {h : Handed FramePlaces} {t : List ℕ} {a : Answer FrameRead} {v : Views} (was : FramePlaces) → h ≡ handedBy a frameParts was → viewsAs a t ≡ v → streamsAs t h ≡ streamsBy v was

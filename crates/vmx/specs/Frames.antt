@@ -42,9 +42,9 @@ shownPlaces fromNew offset size = record { fromNew = fromNew; offset = offset; s
 abbrev pub shownParts : ShownAt → ShownPlaces
 shownParts s = shownPlaces (flagOf (s .fromNew)) (s .offset) (s .size)
 
--- on refusal: "an empty part", of no picture
-abbrev pub nothingShown : ShownPlaces
-nothingShown = shownPlaces 0 0 0
+-- on refusal: "an empty part"; which picture stays as it was
+abbrev pub nothingShown : ℕ → ShownPlaces
+nothingShown fromNew = shownPlaces fromNew 0 0
 
 -- the call for all streams: what it hands out of the header, and the table
 pub record Streams : Type 0 where

@@ -7,14 +7,14 @@ use builder::Builder;
 use builder::Shift;
 use layout::Layout;
 ghost use mathlib.Core.Path.{_≡_};
-ghost use Rattle.layout.specs.Geometry.{layoutOf, interlaceCapable, imageRowOf, previewWidth, previewHeight};
+ghost use Rattle.layout.specs.Geometry.{layoutOf, interlaceCapableOf, layoutRow, previewSizeOf};
 ghost use Rattle.parser.specs.Frame.{parseOf, viewOf};
 ghost use Rattle.views.specs.Table.{allViewsOf};
 ghost use Rattle.tables.specs.Quality.{qualityPreset};
 ghost use Rattle.builder.specs.Build.{headerOf};
 ghost use Rattle.builder.specs.streams.Put.{streamOf, completeOf};
 ghost use Rattle.shown.specs.Shown.{timeOf};
-ghost use Rattle.outs.specs.frame.Outs.{isOn, flagOf, isImageRow, rowLeft, handed, handedBy};
+ghost use Rattle.outs.specs.frame.Outs.{isOn, flagOf, handed, handedBy, rowPlaces, rowParts, previewPlaces, previewParts};
 ghost use Rattle.outs.specs.frame.Outs.{layoutPlaces, layoutParts, framePlaces, frameParts, viewPlaces, viewParts, emptyPart};
 ghost use Rattle.outs.specs.frame.Outs.{buildPlaces, buildParts};
 ghost use Rattle.vmx.specs.Frames.{stateOf, shownAt, shownPlaces, shownParts, nothingShown, streamsAs, streamsBy};
@@ -50,22 +50,62 @@ pub extern "C" fn vmx_layout(
     )
 }
 
-// Whether a frame of this height is interlaced when it says so: 1 or 0.
+// Whether a frame of this size is interlaced when it says so: 1 or 0.
 #[no_mangle]
-pub extern "C" fn vmx_interlace_capable(height: usize) -> u32
-    ensures { λ r. ⌜ r ≡ flagOf (interlaceCapable height) ⌝ }
+pub extern "C" fn vmx_interlace_capable(width: usize, height: usize, capable: &mut u32) -> u32
+    ensures { λ r. ⌜ handed r (now (capable .exit)) ≡ handedBy (interlaceCapableOf width height) flagOf (now (capable .entry)) ⌝ }
 {
-    outs::frame::flag(layout::interlace_capable(height))
+    let x = layout::size_number(width, height);
+    if 0 < x {
+        return x;
+    }
+    *capable = outs::frame::flag(layout::interlace_capable(height));
+    0
 }
 
 // Whether a coded row is a row of the image (1) or padding (0), and which one; of padding nothing is said.
 #[no_mangle]
-pub extern "C" fn vmx_image_row(height: usize, r: usize, interlaced: u32, row: &mut usize) -> u32
-    ensures { λ there. ⌜ (there ≡ flagOf (isImageRow (imageRowOf height r (isOn interlaced))))
-        × (now (row .exit) ≡ rowLeft (imageRowOf height r (isOn interlaced)) (now (row .entry))) ⌝ }
+pub extern "C" fn vmx_image_row(
+    width: usize,
+    height: usize,
+    r: usize,
+    interlaced: u32,
+    there: &mut u32,
+    row: &mut usize,
+) -> u32
+    ensures { λ x. ⌜ handed x (rowPlaces (now (there .exit)) (now (row .exit)))
+        ≡ handedBy (layoutRow width height r (isOn interlaced)) (rowParts (now (row .entry)))
+        (rowPlaces (now (there .entry)) (now (row .entry))) ⌝ }
 {
+    let x = layout::size_number(width, height);
+    if 0 < x {
+        return x;
+    }
     let a = layout::image_row(height, r, 0 < interlaced);
-    outs::frame::row_out(a, row)
+    *there = outs::frame::row_out(a, row);
+    0
+}
+
+// The width and the height of the 1/8 preview.
+#[no_mangle]
+pub extern "C" fn vmx_preview_size(
+    width: usize,
+    height: usize,
+    interlaced: u32,
+    preview_width: &mut usize,
+    preview_height: &mut usize,
+) -> u32
+    ensures { λ r. ⌜ handed r (previewPlaces (now («preview_width» .exit)) (now («preview_height» .exit)))
+        ≡ handedBy (previewSizeOf width height (isOn interlaced)) previewParts
+        (previewPlaces (now («preview_width» .entry)) (now («preview_height» .entry))) ⌝ }
+{
+    let x = layout::size_number(width, height);
+    if 0 < x {
+        return x;
+    }
+    *preview_width = layout::preview_width(width);
+    *preview_height = layout::preview_height(height, 0 < interlaced);
+    0
 }
 
 // The quality that is in force for a quality asked, and its preset.
@@ -74,22 +114,6 @@ pub extern "C" fn vmx_quality_preset(quality: u8, kept: &mut u8, preset: &mut us
     ensures { λ _. ⌜ (now (kept .exit) ≡ qualityPreset quality .quality) × (now (preset .exit) ≡ qualityPreset quality .index) ⌝ }
 {
     outs::frame::quality_out(quality, kept, preset);
-}
-
-// The width of the 1/8 preview.
-#[no_mangle]
-pub extern "C" fn vmx_preview_width(width: usize) -> usize
-    ensures { λ r. ⌜ r ≡ previewWidth width ⌝ }
-{
-    layout::preview_width(width)
-}
-
-// The height of the 1/8 preview.
-#[no_mangle]
-pub extern "C" fn vmx_preview_height(height: usize, interlaced: u32) -> usize
-    ensures { λ r. ⌜ r ≡ previewHeight height (isOn interlaced) ⌝ }
-{
-    layout::preview_height(height, 0 < interlaced)
 }
 
 // What a frame's header says, after all questions about the frame.
@@ -248,11 +272,10 @@ pub extern "C" fn vmx_shown_rows(
     len: &mut usize,
 ) -> u32
     ensures { λ r. ⌜ handed r (shownPlaces (now («from_new» .exit)) (now (offset .exit)) (now (len .exit)))
-        ≡ handedBy (shownAt stride slice verdict new held) shownParts nothingShown ⌝ }
+        ≡ handedBy (shownAt stride slice verdict new held) shownParts (nothingShown (now («from_new» .entry))) ⌝ }
 {
     let x = shown::shown_number(new, held, stride, slice);
     if 0 < x {
-        *from_new = 0;
         *offset = 0;
         *len = 0;
         return x;

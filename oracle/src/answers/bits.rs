@@ -1,9 +1,10 @@
 //! Records of 48 bytes: stream kind, length, bit position, the code read there
-//! (head bit, number, position behind it), the stream.
+//! (head bit, number, position behind it), the stream; or two codes, how often
+//! they are written in turn, the stream.
 
 use crate::gen::streams::{self, Bits};
 use crate::gen::Rng;
-use reference::api::bits::{self, AcSymbol};
+use reference::api::bits::{self, AcSymbol, Writer};
 
 /// The longest stream of a record.
 const MOST: usize = 28;
@@ -41,8 +42,50 @@ pub fn list(rng: &mut Rng) -> (Vec<u8>, usize) {
         let at = rng.below(8 * s.bytes.len() + 80);
         both(&mut out, &s.bytes, at);
     }
+    for _ in 0..400 {
+        written(&mut out, rng);
+    }
     let count = out.len() / 48;
     (out, count)
+}
+
+/// Two codes in turn, at most eight, as long as their stream fits: values, runs, and both; or, for the lent accumulator,
+/// values and runs with values.
+fn written(out: &mut Vec<u8>, rng: &mut Rng) {
+    let lent = !rng.once_in(4);
+    let codes: [(u8, u32, u32); 2] = std::array::from_fn(|_| {
+        let kind = if lent { 2 * rng.below(2) } else { rng.below(3) };
+        let (run_bits, code_bits) = [(0, 32), (31, 0), (17, 15)][kind];
+        let n = rng.below(run_bits + 1);
+        let run = (rng.next() & ((1 << n) - 1)) as u32;
+        let n = rng.below(code_bits + 1);
+        let code = (rng.next() & ((1 << n) - 1)) as u32;
+        (kind as u8, run, code.max(1))
+    });
+    let stream = |count: usize| {
+        let mut w = Writer::default();
+        for (kind, run, code) in codes.iter().cycle().take(count).copied() {
+            match kind {
+                0 => w.put_value(code),
+                1 => w.put_run(run),
+                _ => w.put_run_value(run, code),
+            }
+        }
+        w.align();
+        w.bytes().to_vec()
+    };
+    let most = rng.between(1, 8);
+    let count = (1..=most).rev().find(|n| stream(*n).len() <= 26).unwrap();
+    let bytes = stream(count);
+    let start = out.len();
+    out.extend([2 + lent as u8, bytes.len() as u8, count as u8, rng.next() as u8]);
+    for (kind, run, code) in codes {
+        out.push(kind);
+        out.extend(run.to_le_bytes());
+        out.extend(code.to_le_bytes());
+    }
+    out.extend(bytes);
+    out.resize(start + 48, 0);
 }
 
 /// The AC symbol and the DC code that stand at a bit.

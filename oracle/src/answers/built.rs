@@ -147,7 +147,9 @@ fn sizes(out: &mut Vec<u8>, rng: &mut Rng) {
         for (slice, len) in [(0, 3), (0, 513), (1, 3), (2, 513), (0, 1020)] {
             let mut c = calls(rng, 16, 32, None, true);
             let k = rng.below(c.streams.len() + 1);
-            c.streams.insert(k, Stream { ac: k > 1, slice, at: rng.below(POOL), len, size });
+            // Within the 1,024 bytes that there are.
+            let at = rng.below(POOL).min(1024 - len);
+            c.streams.insert(k, Stream { ac: k > 1, slice, at, len, size });
             put(out, rng, &c);
         }
     }

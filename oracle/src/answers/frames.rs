@@ -48,8 +48,33 @@ pub fn list(rng: &mut Rng) -> (Vec<u8>, usize) {
             put(&mut out, 16, height, &frame, slice % 2 == 1, slice);
         }
     }
+    edges(&mut out);
     let count = out.len() / 148;
     (out, count)
+}
+
+/// Limits of a header and of a stream, each told by which question is the first "no" to a frame of a few bytes.
+fn edges(out: &mut Vec<u8>) {
+    // The count is stored modulo 256: where it is right, the first length is not whole.
+    for height in [4064, 4065, 4080, 4081, 4096, 4097, 4112, 4320] {
+        for count in [254, 255, 0, 1, 14] {
+            put(out, 16, height, &[1, 80, count, 0, 0], false, 0);
+        }
+    }
+    for shift in [14, 15, 16, 17, 255] {
+        put(out, 16, 16, &[3, shift, 1, 80, 1, 0, 0, 0, 0], false, 0);
+    }
+    // A length within its limit is followed by too few bytes.
+    for width in [16, 18, 24, 26, 1920, 7674, 7680] {
+        let l = Layout::new(width, 16).unwrap();
+        let around = |n: usize| [n - 1, n, n + 1].map(|n| (n as u32).to_le_bytes());
+        for len in around(l.max_dc_len()) {
+            put(out, width, 16, &[&[1, 80, 1][..], &len, &[7, 7]].concat(), false, 0);
+        }
+        for len in around(l.max_ac_len()) {
+            put(out, width, 16, &[&[1, 80, 1, 0, 0, 0, 0][..], &len, &[7, 7]].concat(), true, 0);
+        }
+    }
 }
 
 /// A frame with every cut, bytes behind it, and every byte changed.

@@ -1,6 +1,6 @@
 //! Records of 50 bytes: operation, number, two rows, the answer's row.
 
-use crate::gen::{self, Rng};
+use crate::gen::{self, Rng, EXTREMES, EXTREMES32};
 use reference::api::lanes::{self, PATTERNS, SHIFTS, SHUFFLES, TWO};
 use reference::api::Path::Sse2;
 
@@ -32,8 +32,28 @@ pub fn list(rng: &mut Rng) -> (Vec<u8>, usize) {
         put(&mut out, 30, 0, &narrow(a), &narrow(b), &wide(lanes::madd(Sse2, a, b)));
         put(&mut out, 31, 0, &wide(x), &wide(y), &narrow(lanes::packs32(Sse2, x, y)));
     }
+    made(&mut out, rng);
     let count = out.len() / 50;
     (out, count)
+}
+
+/// From one number or row to another kind: extremes, then any.
+fn made(out: &mut Vec<u8>, rng: &mut Rng) {
+    for k in 0..48 {
+        let v = EXTREMES.get(k).copied().unwrap_or_else(|| rng.i16());
+        put(out, 40, 0, &narrow([v, 1, 2, 3, 4, 5, 6, 7]), &[0; 16], &narrow(lanes::splat(Sse2, v)));
+        let v = EXTREMES32.get(k).copied().unwrap_or_else(|| rng.next() as i32);
+        put(out, 41, 0, &wide([v, 1, 2, 3]), &[0; 16], &wide(lanes::splat32(Sse2, v)));
+        // Eight extremes in a row, from each of them on.
+        let a = match k < EXTREMES.len() {
+            true => core::array::from_fn(|i| EXTREMES[(k + i) % EXTREMES.len()]),
+            false => gen::row(rng),
+        };
+        put(out, 42, 0, &narrow(a), &[0; 16], &narrow(lanes::load_u(Sse2, &a.map(|x| x as u16))));
+        let mut bytes = [0; 16];
+        bytes[..8].copy_from_slice(&lanes::packus8(Sse2, a));
+        put(out, 43, 0, &narrow(a), &[0; 16], &bytes);
+    }
 }
 
 fn put(out: &mut Vec<u8>, op: usize, n: usize, a: &[u8; 16], b: &[u8; 16], r: &[u8; 16]) {

@@ -6,9 +6,13 @@ mod built;
 mod dct;
 mod frames;
 mod lanes;
+mod layouts;
+mod limits;
 mod planes;
 mod reads;
 mod record;
+mod shown;
+mod starts;
 mod streams;
 mod tables;
 
@@ -23,15 +27,18 @@ const SEED: u64 = 1;
 type List = (&'static str, fn(&mut Rng) -> (Vec<u8>, usize));
 
 /// In the program's order.
-const LISTS: [List; 8] = [
+const LISTS: [List; 11] = [
     ("bits", bits::list),
     ("dct", dct::list),
     ("lanes", lanes::list),
     ("tables", tables::list),
     ("built", built::list),
     ("frames", frames::list),
+    ("layouts", layouts::list),
+    ("limits", limits::list),
     ("planes", planes::list),
     ("reads", reads::list),
+    ("shown", shown::list),
 ];
 
 /// Writes each list to crates/replays/data, and crates/replays/stdout.

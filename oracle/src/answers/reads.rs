@@ -2,7 +2,7 @@
 //! block reports, and what they answer and leave in the rows.
 
 use super::record::{self, Call, Filled, Part, AC, DC};
-use super::streams;
+use super::{starts, streams};
 use crate::calls::{Buffers, Calls, Plane, Rust};
 use crate::gen::planes;
 use crate::gen::streams::{damage, reading};
@@ -14,9 +14,9 @@ use reference::api::Path::Sse2;
 const ROWS: usize = 512;
 const RECORD: usize = 808;
 
-const SLICE: u8 = 2;
-const PREVIEW: u8 = 4;
-const REPORT: u8 = 5;
+pub const SLICE: u8 = 2;
+pub const PREVIEW: u8 = 4;
+pub const REPORT: u8 = 5;
 
 pub struct List {
     rust: Rust,
@@ -40,14 +40,14 @@ pub fn list(rng: &mut Rng) -> (Vec<u8>, usize) {
     bad_slices::<u16>(&mut l, rng);
     refused::<u8>(&mut l, rng);
     refused::<u16>(&mut l, rng);
-    long(&mut l);
+    starts::list(&mut l);
     let count = l.out.len() / RECORD;
     (l.out, count)
 }
 
 impl List {
     /// Puts a call and its answer: the number, and the rows behind it.
-    fn put<T: Filled>(&mut self, c: &Call, before: &Buffers) -> u32 {
+    pub fn put<T: Filled>(&mut self, c: &Call, before: &Buffers) -> u32 {
         let plane = |k: usize, place: usize| -> Plane<T> {
             let p = c.parts[k % 4];
             (place, p.stride, vec![T::filled(c.fill); p.len])
@@ -77,7 +77,7 @@ impl List {
     }
 
     /// Puts a preview, into the first two parts, or a report, into the first.
-    fn look(&mut self, c: &Call, before: &Buffers) -> u32 {
+    pub fn look(&mut self, c: &Call, before: &Buffers) -> u32 {
         let mut after = before.clone();
         let mut rows = c.parts.map(|p| vec![c.fill; p.len]);
         let [upper, lower, ..] = &mut rows;
@@ -105,7 +105,7 @@ impl List {
 }
 
 /// A call whose planes stand one behind the other.
-fn call(op: u8, settings: Settings, place: usize, fill: u8, planes: &[(usize, usize)]) -> Call {
+pub fn call(op: u8, settings: Settings, place: usize, fill: u8, planes: &[(usize, usize)]) -> Call {
     let mut parts = [Part::default(); 4];
     let mut at = 0;
     for (k, (stride, len)) in planes.iter().enumerate() {
@@ -268,23 +268,4 @@ fn refused<T: Filled>(l: &mut List, rng: &mut Rng) {
     }
     let far = Buffers { dc: vec![0; 9], dc_at: 16_777_215, ac: vec![0; 9], ac_at: 16_777_215 };
     plane::<T>(l, rng, settings, 0, 8, &far);
-}
-
-/// Streams as long as may be read, and with a byte more of DC or of AC: question 7's limits.
-fn long(l: &mut List) {
-    let settings = Settings { preset: 5, dc_shift: 2 };
-    for (long, dc, ac) in [(1, 245_760, 430_080), (2, 245_761, 430_080), (3, 245_760, 430_081)] {
-        let b = Buffers { dc: vec![0xFF; dc], dc_at: 0, ac: vec![0xFF; ac], ac_at: 0 };
-        let taken = if long == 1 { 0 } else { 7 };
-        let one = Call { long, ..call(0, settings, 0, 0x77, &[(8, 128)]) };
-        assert_eq!(l.put::<u8>(&one, &b), taken);
-        assert_eq!(l.put::<u16>(&Call { op: 1, ..one.clone() }, &b), taken);
-        let two = Call { long, ..call(SLICE, settings, 2, 0x77, &[(8, 128), (8, 128)]) };
-        assert_eq!(l.put::<u8>(&two, &b), taken);
-        assert_eq!(l.put::<u16>(&Call { op: SLICE + 1, ..two.clone() }, &b), taken);
-        let preview = Call { long, ..call(PREVIEW, settings, 0, 0x77, &[(8, 1), (0, 1)]) };
-        assert_eq!(l.look(&preview, &b), if long == 2 { 7 } else { 0 });
-        let report = Call { long, ..call(REPORT, settings, 0, 0x77, &[(8, 2)]) };
-        assert_eq!(l.look(&report, &b), if long == 3 { 7 } else { 0 });
-    }
 }

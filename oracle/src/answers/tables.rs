@@ -1,7 +1,7 @@
-//! Records of 12 bytes: kind, preset, place, four numbers answered.
+//! Records of 12 bytes: kind, preset or quality, place, four numbers answered.
 
 use crate::gen::Rng;
-use reference::api::tables::{quant, PRESETS, ZIGZAG};
+use reference::api::tables::{quality_preset, quant, PRESETS, ZIGZAG};
 
 pub fn list(_: &mut Rng) -> (Vec<u8>, usize) {
     let mut out = Vec::new();
@@ -14,6 +14,10 @@ pub fn list(_: &mut Rng) -> (Vec<u8>, usize) {
     }
     for (place, natural) in ZIGZAG.iter().enumerate() {
         put(&mut out, 1, 0, place, [*natural as u16, 0, 0, 0]);
+    }
+    for quality in 0..=255usize {
+        let (kept, preset) = quality_preset(quality as i32);
+        put(&mut out, 2, quality, 0, [kept as u16, preset as u16, 0, 0]);
     }
     let count = out.len() / 12;
     (out, count)

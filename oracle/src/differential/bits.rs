@@ -32,9 +32,11 @@ fn written(run: &mut Run) {
     let rng = &mut run.rng;
     let mut w = Writer::default();
     let count = if rng.once_in(4) { rng.between(1, 4) } else { rng.between(1, 200) };
+    // A run by itself has no call that takes a lent accumulator.
+    let lent = rng.once_in(2);
     let (mut kinds, mut runs, mut codes) = (vec![], vec![], vec![]);
     for _ in 0..count {
-        let k = rng.below(3) as u8;
+        let k = if lent { 2 * rng.below(2) as u8 } else { rng.below(3) as u8 };
         let (run_bits, code_bits) = [(0, 32), (31, 0), (17, 15)][k as usize];
         let n = few_bits(rng, run_bits);
         let v = few_bits(rng, code_bits).max(1);
@@ -52,11 +54,18 @@ fn written(run: &mut Run) {
     let before = rng.bytes(at + w.bytes().len() + 40);
     let mut wanted = before.clone();
     wanted[at..at + w.bytes().len()].copy_from_slice(w.bytes());
-    let mut out = before;
+    let mut out = before.clone();
     let end = ours::bits::write(&kinds, &runs, &codes, at, &mut out);
     let equal = end == at + w.bytes().len() && out == wanted;
-    run.report
-        .many(kind, equal, kinds.len() as u64, kinds.len(), || format!("from byte {at}: {kinds:?} {runs:?} {codes:?}"));
+    let text = || format!("from byte {at}: {kinds:?} {runs:?} {codes:?}");
+    run.report.many(kind, equal, kinds.len() as u64, kinds.len(), text);
+    if lent {
+        let kind = run.report.kind("bits: symbols written through a lent accumulator");
+        let mut out = before;
+        let end = ours::bits::write_lent(&kinds, &runs, &codes, at, &mut out);
+        let equal = end == at + w.bytes().len() && out == wanted;
+        run.report.many(kind, equal, kinds.len() as u64, kinds.len(), text);
+    }
 }
 
 /// A number of at most `most` bits, all bit lengths equally often.

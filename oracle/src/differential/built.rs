@@ -5,10 +5,12 @@ use crate::gen::frames::{self, Parts};
 use crate::gen::Rng;
 use crate::ours::builder::{self, State};
 use crate::ours::shown;
-use crate::questions::{strides, NO_LIMIT, NO_ROOM, NO_ROWS, NO_SHIFT, NO_STRIDE, NO_TURN, SHIFT_MAX, SLICES_MAX};
+use crate::questions::{self, NO_LIMIT, NO_ROOM, NO_SHIFT, NO_TURN, SHIFT_MAX, SLICES_MAX};
 use reference::api::layout::{number, write, Layout};
 
 pub fn run(run: &mut Run) {
+    by_lengths(run);
+    at_the_limit(run);
     while run.more() {
         for _ in 0..20 {
             built(run);
@@ -170,9 +172,44 @@ fn header_refused(run: &mut Run) {
         .same(kind, &(found, &out), &(Err(wanted), &before), n, || format!("{size:?} shift {shift} room {n} at {at}"));
 }
 
+/// Where the rows lie, for pictures of any length, which are not lent: every stride, slices around the limit.
+fn by_lengths(run: &mut Run) {
+    let kind = run.report.kind("shown rows, by the pictures' lengths");
+    for stride in (0..=7700).step_by(4) {
+        for slice in [0, 1, SLICES_MAX - 2, SLICES_MAX - 1, SLICES_MAX, SLICES_MAX + 1] {
+            let end = (slice + 1) * 16 * stride;
+            for (new, held) in
+                [(end, end), (end, end.saturating_sub(1)), (end.saturating_sub(1), end), (usize::MAX, end)]
+            {
+                for verdict in [0, 8] {
+                    let wanted = match questions::shown(new, held, stride, slice) {
+                        0 => Ok((verdict == 0, slice * 16 * stride, 16 * stride)),
+                        number => Err(number),
+                    };
+                    let found = shown::place(new, held, stride, slice, verdict);
+                    run.report.same(kind, &found, &wanted, 0, || {
+                        format!("stride {stride} slice {slice} verdict {verdict} lengths {new} {held}")
+                    });
+                }
+            }
+        }
+    }
+}
+
+/// The rows themselves of the last slice that may be shown, out of pictures that are a slice longer.
+fn at_the_limit(run: &mut Run) {
+    let stride = 8;
+    let n = (SLICES_MAX + 1) * 16 * stride;
+    for slice in [SLICES_MAX - 1, SLICES_MAX] {
+        for verdict in [0, 14] {
+            let (new, held) = (run.rng.bytes(n), run.rng.bytes(n));
+            shown_rows(run, (&new, &held), stride, slice, verdict);
+        }
+    }
+}
+
 /// The slice's sixteen rows out of the new picture where it was accepted, out of the held one where not.
 fn rows(run: &mut Run) {
-    let kind = run.report.kind("shown rows");
     let rng = &mut run.rng;
     let stride = if rng.once_in(6) { rng.pick(&[0, 4, 12, 7688, usize::MAX]) } else { 8 * rng.between(1, 3) };
     let slices = rng.between(1, 4);
@@ -185,23 +222,37 @@ fn rows(run: &mut Run) {
     let (n, m) = (len(rng), len(rng));
     let (new, held) = (rng.bytes(n), rng.bytes(m));
     let verdict = if rng.once_in(2) { 0 } else { rng.pick(&[1, 8, 14, u32::MAX]) };
-    let whole = |len: usize| slice.checked_add(1).and_then(|s| s.checked_mul(16 * stride)).is_some_and(|e| e <= len);
-    let wanted = if strides(&[stride]) > 0 {
-        Err(NO_STRIDE)
-    } else if !whole(n) || !whole(m) {
-        Err(NO_ROWS)
-    } else if slice >= SLICES_MAX {
-        Err(NO_TURN)
-    } else {
-        let from = if verdict == 0 { &new } else { &held };
-        Ok(from[slice * 16 * stride..(slice + 1) * 16 * stride].to_vec())
-    };
-    let text = || format!("stride {stride} slice {slice} verdict {verdict} lengths {n} {m}");
-    run.report.same(kind, &shown::rows(&new, &held, stride, slice, verdict), &wanted, n, text);
-    let wide = |v: &[u8]| -> Vec<u16> { v.iter().map(|b| 257 * *b as u16).collect() };
-    let found = shown::rows(&wide(&new), &wide(&held), stride, slice, verdict);
-    run.report.same(kind, &found, &wanted.map(|v| wide(&v)), n, text);
+    shown_rows(run, (&new, &held), stride, slice, verdict);
+    let kind = run.report.kind("shown time");
     let (a, b) = (run.rng.next(), run.rng.next());
     let time = if verdict == 0 { a } else { b };
     run.report.same(kind, &shown::time(a, b, verdict), &time, 0, || format!("verdict {verdict}"));
+}
+
+/// Both depths, by the exported call's offset and length, and as the part that is handed back.
+fn shown_rows(run: &mut Run, (new, held): (&[u8], &[u8]), stride: usize, slice: usize, verdict: u32) {
+    let kind = run.report.kind("shown rows");
+    let (n, m) = (new.len(), held.len());
+    let wanted = match questions::shown(n, m, stride, slice) {
+        0 => {
+            let from = if verdict == 0 { new } else { held };
+            Ok(from[slice * 16 * stride..(slice + 1) * 16 * stride].to_vec())
+        }
+        number => Err(number),
+    };
+    let text = || format!("stride {stride} slice {slice} verdict {verdict} lengths {n} {m}");
+    run.report.same(kind, &shown::rows(new, held, stride, slice, verdict), &wanted, n, text);
+    let wide = |v: &[u8]| -> Vec<u16> { v.iter().map(|b| 257 * *b as u16).collect() };
+    let (new16, held16) = (wide(new), wide(held));
+    let found = shown::rows(&new16, &held16, stride, slice, verdict);
+    run.report.same(kind, &found, &wanted.clone().map(|v| wide(&v)), n, text);
+    // The same rows, or an empty part beside the number.
+    let (part, number) = match wanted {
+        Ok(rows) => (rows, 0),
+        Err(number) => (vec![], number),
+    };
+    let kind = run.report.kind("shown rows as a part of a picture");
+    let found = shown::part10(&new16, &held16, stride, slice, verdict);
+    run.report.same(kind, &found, &(wide(&part), number), n, text);
+    run.report.same(kind, &shown::part8(new, held, stride, slice, verdict), &(part, number), n, text);
 }

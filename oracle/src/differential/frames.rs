@@ -15,6 +15,11 @@ pub fn run(run: &mut Run) {
     for width in (16..=7680).step_by(2) {
         geometry(run, &kinds, width, 480);
     }
+    for width in [0, 1, 14, 15, 16, 17, 1921, 7679, 7680, 7681, 7682, usize::MAX] {
+        for height in [0, 1, 15, 16, 480, 576, 1080, 4320, 4321, 100_000, usize::MAX - 20, usize::MAX] {
+            geometry(run, &kinds, width, height);
+        }
+    }
     small(run, &kinds);
     while run.more() {
         for _ in 0..20 {
@@ -33,6 +38,7 @@ struct Kinds {
     read: Kind,
     refused: Kind,
     views: Kind,
+    parts: Kind,
     tables: Kind,
 }
 
@@ -46,32 +52,34 @@ impl Kinds {
             read: kind("read"),
             refused: kind("refused"),
             views: kind("places of streams"),
+            parts: kind("streams as parts of the frame"),
             tables: kind("tables of places"),
         }
     }
 }
 
-/// All that follows from a width and a height.
+/// All that follows from a width and a height: the geometry and the methods of Layout, or 9 from each call.
 fn geometry(run: &mut Run, kinds: &Kinds, width: usize, height: usize) {
-    let rust = Layout::new(width, height);
+    let rust = Layout::new(width, height).map_err(number);
     let found = ours::layout::new(width, height);
-    let wanted = rust.map_err(number).map(|l| {
+    let wanted = rust.map(|l| {
         let [y, u, v, a] = l.strides();
         assert!(u == v && y == a);
         [l.aligned_height(), l.slices(), y, u, l.max_dc_len(), l.max_ac_len()]
     });
     let text = || format!("width {width} height {height}");
     run.report.same(kinds.layout, &found, &wanted, 0, text);
-    let Ok(l) = rust else { return };
-    run.report.same(kinds.layout, &ours::layout::interlace_capable(height), &l.interlace_capable(), 0, text);
+    let (found, wanted) = (ours::layout::interlace_capable(width, height), rust.map(|l| l.interlace_capable()));
+    run.report.same(kinds.layout, &found, &wanted, 0, text);
+    let high = rust.map_or(100, |l| l.aligned_height());
     for interlaced in [false, true] {
         let found = ours::layout::preview_size(width, height, interlaced);
-        run.report.same(kinds.layout, &found, &l.preview_size(interlaced), 0, text);
-        let start = run.rng.below(l.aligned_height());
-        for r in (start..start + 20).chain([0, height, l.aligned_height() / 2, l.aligned_height(), usize::MAX]) {
-            let found = ours::layout::image_row(height, r, interlaced);
-            run.report.same(kinds.rows, &found, &l.image_row(r, interlaced), 0, || {
-                format!("height {height} row {r} interlaced {interlaced}")
+        run.report.same(kinds.layout, &found, &rust.map(|l| l.preview_size(interlaced)), 0, text);
+        let start = run.rng.below(high);
+        for r in (start..start + 20).chain([0, height, high / 2, high, usize::MAX]) {
+            let found = ours::layout::image_row(width, height, r, interlaced);
+            run.report.same(kinds.rows, &found, &rust.map(|l| l.image_row(r, interlaced)), 0, || {
+                format!("width {width} height {height} row {r} interlaced {interlaced}")
             });
         }
     }
@@ -131,19 +139,20 @@ fn bad_size(run: &mut Run, kinds: &Kinds, width: usize, height: usize) {
     let text = || format!("width {width} height {height} frame {frame:02x?}");
     run.report.same(kinds.refused, &ours::layout::parse(width, height, &frame), &Err(number(e)), n, text);
     run.report.same(kinds.views, &ours::layout::view(width, height, &frame, false, 0), &Err(number(e)), n, text);
+    part(run, kinds, (width, height), &frame, (false, 0), Err(number(e)));
     let room = run.rng.pick(&[0, 4 * SLICES_MAX, 8]);
     table(run, kinds, (width, height), &frame, room, &Err(number(e)));
 }
 
-/// All streams' places in a table of so many numbers: question 5 comes before all others, a refused call leaves the
-/// table as it was, and so do all numbers after the places.
+/// All streams' places in a table of so many numbers: question 5 comes after 9 and before all others, a refused call
+/// leaves the table as it was, and so do all numbers after the places.
 fn table(run: &mut Run, kinds: &Kinds, size: (usize, usize), frame: &[u8], room: usize, rust: &Result<Container, u32>) {
     let (width, height) = size;
     let fill = run.rng.next() as u32;
     let mut wanted: Vec<u32> = (0..room as u32).map(|i| fill ^ i).collect();
     let mut found = wanted.clone();
-    let slices = height / 16 + (height % 16 > 0) as usize;
-    let number = if room / 4 < slices { Err(NO_ROWS) } else { rust.as_ref().map(header).map_err(|x| *x) };
+    let slices = Layout::new(width, height).map_or(0, |l| l.slices());
+    let number = if room < 4 * slices { Err(NO_ROWS) } else { rust.as_ref().map(header).map_err(|x| *x) };
     if let (Ok(_), Ok(c)) = (&number, rust) {
         let none = vec![(0, 0); slices];
         let ac = if c.ac.is_empty() { &none } else { &c.ac };
@@ -157,6 +166,25 @@ fn table(run: &mut Run, kinds: &Kinds, size: (usize, usize), frame: &[u8], room:
             frame.len(),
             &frame[..frame.len().min(200)]
         )
+    });
+}
+
+/// The stream that is handed back as a part of the frame: its bytes, none where it is refused, and the number.
+fn part(
+    run: &mut Run,
+    kinds: &Kinds,
+    (width, height): (usize, usize),
+    frame: &[u8],
+    (ac, slice): (bool, usize),
+    place: Result<(usize, usize), u32>,
+) {
+    let wanted = match place {
+        Ok((at, n)) => (frame[at..at + n].to_vec(), 0),
+        Err(number) => (vec![], number),
+    };
+    let found = ours::layout::part(width, height, frame, ac, slice);
+    run.report.same(kinds.parts, &found, &wanted, frame.len(), || {
+        format!("slice {slice} ac {ac} width {width} height {height} frame of {}", frame.len())
     });
 }
 
@@ -181,7 +209,9 @@ fn judged(run: &mut Run, kinds: &Kinds, width: usize, height: usize, l: &Layout,
                 list.get(slice).copied().ok_or(NO_TURN)
             });
             let found = ours::layout::view(width, height, frame, ac, slice);
-            run.report.same(kinds.views, &found, &wanted, frame.len(), || format!("slice {slice} ac {ac} {}", text()));
+            let text = || format!("slice {slice} ac {ac} {}", text());
+            run.report.same(kinds.views, &found, &wanted, frame.len(), text);
+            part(run, kinds, (width, height), frame, (ac, slice), wanted);
         }
     }
     let room = match run.rng.below(8) {

@@ -7,6 +7,7 @@ mod dct;
 mod examples;
 mod frames;
 mod lanes;
+mod limits;
 mod lists;
 mod planes;
 mod tables;
@@ -32,12 +33,13 @@ impl Run {
 
 type Layer = (&'static str, fn(&mut Run));
 
-const LAYERS: [Layer; 9] = [
+const LAYERS: [Layer; 10] = [
     ("examples", examples::run),
     ("tables", tables::run),
     ("lanes", lanes::run),
     ("dct", dct::run),
     ("bits", bits::run),
+    ("limits", limits::run),
     ("planes", planes::run),
     ("frames", frames::run),
     ("built", built::run),

@@ -1,7 +1,18 @@
-//! Crates bitwriter and bitreader, by crates/probe/src/of_bitacc.rt and of_bitreader.rt, and by crates/probe_pairs.
+//! Crates bitwriter and bitreader, by crates/probe/src/of_bitacc.rt, of_lent.rt and of_bitreader.rt, and by crates/probe_pairs.
 
 unsafe extern "C" {
     fn probe_bitacc_write(
+        kinds: *const u8,
+        kn: usize,
+        runs: *const u32,
+        rn: usize,
+        codes: *const u32,
+        cn: usize,
+        at: usize,
+        out: *mut u8,
+        n: usize,
+    ) -> usize;
+    fn probe_lent_write(
         kinds: *const u8,
         kn: usize,
         runs: *const u32,
@@ -32,6 +43,14 @@ pub fn write(kinds: &[u8], runs: &[u32], codes: &[u32], at: usize, out: &mut [u8
     unsafe {
         probe_bitacc_write(kinds.as_ptr(), n, runs.as_ptr(), n, codes.as_ptr(), n, at, out.as_mut_ptr(), out.len())
     }
+}
+
+/// The same through the lent accumulator: for kind 0 a value, for any other a run and a value.
+pub fn write_lent(kinds: &[u8], runs: &[u32], codes: &[u32], at: usize, out: &mut [u8]) -> usize {
+    assert!(runs.len() == kinds.len() && codes.len() == kinds.len());
+    let n = kinds.len();
+    // SAFETY: three slices of n, which are only read, and the output with its own length.
+    unsafe { probe_lent_write(kinds.as_ptr(), n, runs.as_ptr(), n, codes.as_ptr(), n, at, out.as_mut_ptr(), out.len()) }
 }
 
 /// Runs with values in a row, in one loop as a block writes them; the end, 0 where there are not eight bytes for each.

@@ -60,18 +60,25 @@ pub struct Ours {
 pub const OURS: Ours = Ours { guards: false };
 pub const GUARDED: Ours = Ours { guards: true };
 
-/// Number and lengths of the size call for one plane.
-pub fn plane_size(stride: usize) -> (u32, usize, usize) {
-    let (mut dc, mut ac) = (7, 7);
-    let number = vmx_plane_size(stride, &mut dc, &mut ac);
-    (number, dc, ac)
+/// Lengths of the size call for one plane, or the refusal's number.
+pub fn plane_size(stride: usize) -> Result<(usize, usize), u32> {
+    sized(|dc, ac| vmx_plane_size(stride, dc, ac))
 }
 
 /// The same for the first `count` of four planes.
-pub fn slice_size(count: usize, s: [usize; 4]) -> (u32, usize, usize) {
+pub fn slice_size(count: usize, s: [usize; 4]) -> Result<(usize, usize), u32> {
+    sized(|dc, ac| vmx_slice_size(count, s[0], s[1], s[2], s[3], dc, ac))
+}
+
+fn sized(call: impl FnOnce(&mut usize, &mut usize) -> u32) -> Result<(usize, usize), u32> {
     let (mut dc, mut ac) = (7, 7);
-    let number = vmx_slice_size(count, s[0], s[1], s[2], s[3], &mut dc, &mut ac);
-    (number, dc, ac)
+    match call(&mut dc, &mut ac) {
+        0 => Ok((dc, ac)),
+        number => {
+            assert_eq!((dc, ac), (7, 7), "a refused size call stores nothing");
+            Err(number)
+        }
+    }
 }
 
 /// How many samples or bytes stand guard on each side.

@@ -7,7 +7,7 @@ use native.Mathlib.Omega.{arith}
 use borrow.Author.Tests.{eqb-true, eqb-false}
 use lib.Dec.{eqb, lit<}
 use lib.IntN.{ℤ, pos}
-use lib.ListN.{length, set, replicate, length-set}
+use lib.ListN.{length, getD, set, replicate, length-set}
 use lib.Seq.{getD-set-same, getD-set-other}
 use Rattle.scalar.specs.Tab.{tabFrom}
 use Rattle.scalar.proofs.Fill.{list-ext}
@@ -16,6 +16,10 @@ use Rattle.tables.proofs.Scan.{unzigzag-zigzag, zigzag-below, zigzag-first}
 use Rattle.quant.specs.Quantise.{coefficient, scanOf}
 use Rattle.quant.proofs.Blocks.{scan-at, scan-length, scan-first}
 use Rattle.calls.specs.Streams.{dcOf, withDc}
+
+-- the natural place of a place is below 64
+pub place-below : (z : List ℕ) (place : ℕ) → z ≡ zigzag → place < 64 → getD z place 0 < 64
+place-below z place e b = rw e (zigzag-below place b)
 
 pub scan-zero : scanOf (replicate 64 (pos 0)) ≡ replicate 64 (pos 0)
 unfolding scanOf tabFrom zigzag

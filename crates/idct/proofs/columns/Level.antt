@@ -1,5 +1,5 @@
 -- The level may be added after the columns: at level 0 their sums are as they were shifted.
-use mathlib.Core.Path.{_≡_, refl, sym, ap, _∙_}
+use mathlib.Core.Path.{_≡_, sym, ap, _∙_}
 use mathlib.Core.List.{List}
 use Prim.Native.Nat.{ℕ, zero, suc, _/_, _%_, _<_, _^_}
 use native.Mathlib.Omega.{arith}
@@ -7,28 +7,25 @@ use lib.IntN.{ℤ, pos, _+ℤ_, _-ℤ_, +ℤ-idr}
 use mir.Syntax.{w16}
 use mir.Val.{SFits}
 use Rattle.scalar.specs.Scalar.{sat16, addsOf, subsOf, sraOf}
-use Rattle.scalar.specs.Tab.{tab}
 use Rattle.scalar.proofs.cuts.Nearest.{sat-mid}
 use Rattle.scalar.proofs.Laws.{sat-fits, shr-fits}
 use Rattle.scalar.proofs.Fill.{getD-tab, tab-ext}
-use Rattle.irow.specs.RowPass.{lane}
-use Rattle.idct.specs.declared.column.Four.{Four}
-use Rattle.idct.specs.column.Steps.{inverseOddOf, inverseEvenOf, inverseSumOf, inverseDiffOf, inverseJoinOf, inverseColumnOf}
+use Rattle.idct.specs.column.Steps.{Stage, inverseSumOf, inverseDiffOf, inverseJoinOf, inverseColumnOf}
 use Rattle.idct.specs.columns.Columns.{eightAt, inverseColumnAt, inverseColumnsOf, levelAddedOf}
 
-add-zero : (z : ℤ) → SFits w16 z → addsOf z (pos 0) ≡ z
+pub add-zero : (z : ℤ) → SFits w16 z → addsOf z (pos 0) ≡ z
 unfolding addsOf
 add-zero z h = ap sat16 (+ℤ-idr z) ∙ sym (sat-mid z h)
 
-shift-fits : (z : ℤ) (n : ℕ) → SFits w16 z → SFits w16 (sraOf z n)
+pub shift-fits : (z : ℤ) (n : ℕ) → SFits w16 z → SFits w16 (sraOf z n)
 unfolding sraOf
 shift-fits z n h = shr-fits (2 ^ n) h
 
-adds-fits : (a b : ℤ) → SFits w16 (addsOf a b)
+pub adds-fits : (a b : ℤ) → SFits w16 (addsOf a b)
 unfolding addsOf
 adds-fits a b = sat-fits (a +ℤ b)
 
-subs-fits : (a b : ℤ) → SFits w16 (subsOf a b)
+pub subs-fits : (a b : ℤ) → SFits w16 (subsOf a b)
 unfolding subsOf
 subs-fits a b = sat-fits (a -ℤ b)
 
@@ -40,7 +37,7 @@ diff-level : (shift : ℕ) (level a b : ℤ) → addsOf (inverseDiffOf shift (po
 unfolding inverseDiffOf
 diff-level shift level a b = ap (λ (z : ℤ). addsOf z level) (add-zero (sraOf (subsOf a b) shift) (shift-fits (subsOf a b) shift (subs-fits a b)))
 
-join-level : (shift : ℕ) (level : ℤ) (o e : Four) (k : ℕ) → k < 8 → addsOf (eightAt (inverseJoinOf shift (pos 0) o e) k) level ≡ eightAt (inverseJoinOf shift level o e) k
+join-level : (shift : ℕ) (level : ℤ) (o e : Stage) (k : ℕ) → k < 8 → addsOf (eightAt (inverseJoinOf shift (pos 0) o e) k) level ≡ eightAt (inverseJoinOf shift level o e) k
 unfolding inverseJoinOf
 join-level shift level o e zero h = sum-level shift level (o .h0) (e .h0)
 join-level shift level o e (suc zero) h = sum-level shift level (e .h1) (o .h1)

@@ -3,8 +3,24 @@ use Prim.Native.Nat.{ℕ}
 use lib.IntN.{ℤ, pos, negsuc}
 unfoldable pub use Rattle.scalar.specs.Named.{_▸_}
 use Rattle.scalar.specs.Scalar.{addsOf, subsOf, mulhiOf, orOf, sraOf}
-use Rattle.idct.specs.declared.column.Four.{Four}
-use Rattle.idct.specs.declared.column.Eight.{Eight}
+
+-- four numbers of a column, between two stages
+pub record Stage : Type 0 where
+  pub h0 : ℤ
+  pub h1 : ℤ
+  pub h2 : ℤ
+  pub h3 : ℤ
+
+-- the eight numbers of a column, from the top
+pub record Column : Type 0 where
+  pub y0 : ℤ
+  pub y1 : ℤ
+  pub y2 : ℤ
+  pub y3 : ℤ
+  pub y4 : ℤ
+  pub y5 : ℤ
+  pub y6 : ℤ
+  pub y7 : ℤ
 
 -- TG_1_16, TG_2_16, TG_3_16, COS_4_16 of tables.rs
 abbrev pub tg1 : ℤ
@@ -20,7 +36,7 @@ abbrev pub cos4 : ℤ
 cos4 = negsuc 19194
 
 -- the steps on rows 1, 3, 5 and 7
-unfoldable pub inverseOddOf : ℤ → ℤ → ℤ → ℤ → Four
+unfoldable pub inverseOddOf : ℤ → ℤ → ℤ → ℤ → Stage
 inverseOddOf x1 x3 x5 x7 =
     mulhiOf x5 tg3 ▸ λ m5.
     mulhiOf tg3 x3 ▸ λ m3.
@@ -49,7 +65,7 @@ inverseOddOf x1 x3 x5 x7 =
     record { h0 = o0; h1 = o1; h2 = o2; h3 = o3 }
 
 -- the steps on rows 0, 2, 4 and 6; the sums are rounded by `round`, the differences by `corr`
-unfoldable pub inverseEvenOf : ℤ → ℤ → ℤ → ℤ → ℤ → ℤ → Four
+unfoldable pub inverseEvenOf : ℤ → ℤ → ℤ → ℤ → ℤ → ℤ → Stage
 inverseEvenOf round corr x0 x2 x4 x6 =
     mulhiOf x6 tg2 ▸ λ m6.
     mulhiOf tg2 x2 ▸ λ m2.
@@ -75,7 +91,7 @@ unfoldable pub inverseDiffOf : ℕ → ℤ → ℤ → ℤ → ℤ
 inverseDiffOf shift level a b = addsOf (sraOf (subsOf a b) shift) level
 
 -- both stages joined: the upper half are sums, the lower half differences
-unfoldable pub inverseJoinOf : ℕ → ℤ → Four → Four → Eight
+unfoldable pub inverseJoinOf : ℕ → ℤ → Stage → Stage → Column
 inverseJoinOf shift level o e =
     record {
       y0 = inverseSumOf shift level (o .h0) (e .h0);
@@ -89,6 +105,6 @@ inverseJoinOf shift level o e =
     }
 
 -- the column of x0 to x7, level added, not clamped
-unfoldable pub inverseColumnOf : ℤ → ℤ → ℕ → ℤ → ℤ → ℤ → ℤ → ℤ → ℤ → ℤ → ℤ → ℤ → Eight
+unfoldable pub inverseColumnOf : ℤ → ℤ → ℕ → ℤ → ℤ → ℤ → ℤ → ℤ → ℤ → ℤ → ℤ → ℤ → Column
 inverseColumnOf round corr shift level x0 x1 x2 x3 x4 x5 x6 x7 =
     inverseJoinOf shift level (inverseOddOf x1 x3 x5 x7) (inverseEvenOf round corr x0 x2 x4 x6)

@@ -2,21 +2,13 @@
 use mathlib.Core.Path.{_≡_, refl, ap, _∙_}
 use mathlib.Core.Bool.{Bool, true, false}
 use mathlib.Core.List.{List}
-use Prim.Native.Nat.{ℕ, _+_, _-_, _*_, _/_, _%_, _<_, _≤_}
-use native.Mathlib.Omega.{arith}
-use lib.Dec.{ltb}
+use Prim.Native.Nat.{ℕ, _<_}
 use lib.IntN.{ℤ, pos, _+ℤ_, _-ℤ_}
-use borrow.Author.Tests.{lt-ltb, le-ltb}
 use Rattle.scalar.specs.Scalar.{sat16, wrap32, sraOf, add32Of, sub32Of}
-use Rattle.scalar.specs.Tab.{tab, lane}
+use Rattle.scalar.specs.Tab.{lane}
 use Rattle.scalar.proofs.Fill.{getD-tab}
-use Rattle.scalar.proofs.InRows.{row-of, col-of}
-use Rattle.irow.specs.sums.Sums.{evenPartOf, joinedOf, inverseLaneOf, inverseHalfOf, pickZ}
+use Rattle.irow.specs.sums.Sums.{evenPartOf, inverseLaneOf, inverseHalfOf}
 use Rattle.irow.proofs.sums.Wrap.{wrap-sum, wrap-diff}
-
--- two sums E and O, joined, shifted and saturated
-pub lane-steps : (op : ℤ → ℤ → ℤ) (shift : ℕ) {E O P S R e o : ℤ} → E ≡ e → O ≡ o → P ≡ op E O → S ≡ sraOf P shift → R ≡ sat16 S → R ≡ sat16 (sraOf (op e o) shift)
-lane-steps op shift p q r s t = rw (t, s, r, p, q) refl
 
 -- from wrapped pairs of products: the wrap of the whole sum
 pub left-is : (round : ℤ) (shift : ℕ) (a b c d : ℤ)
@@ -34,15 +26,3 @@ pub half-at : (right : Bool) (round : ℤ) (shift : ℕ) (m0 m1 m2 m3 : List ℤ
 unfolding inverseHalfOf
 half-at right round shift m0 m1 m2 m3 j h p q r s =
     getD-tab 32 (λ i. inverseLaneOf right round shift (lane m0 i) (lane m1 i) (lane m2 i) (lane m3 i)) j (pos 0) h ∙ rw (p, q, r, s) refl
-
--- the halves side by side
-abbrev pub sideAt : List ℤ → List ℤ → ℕ → ℤ
-sideAt lo hi i = pickZ (ltb (i % 8) 4) (lane lo (4 * (i / 8) + i % 8)) (lane hi (4 * (i / 8) + (i % 8 - 4)))
-
-pub low-place : (lo hi : List ℤ) (r k : ℕ) → k < 4 → lane lo (4 * r + k) ≡ sideAt lo hi (8 * r + k)
-low-place lo hi r k h =
-    let l : k < 8 = omega arith in
-    rw (row-of r k l, col-of r k l, lt-ltb k 4 h) refl
-
-pub high-place : (lo hi : List ℤ) (r k : ℕ) → 4 ≤ k → k < 8 → lane hi (4 * r + (k - 4)) ≡ sideAt lo hi (8 * r + k)
-high-place lo hi r k h l = rw (row-of r k l, col-of r k l, le-ltb k 4 h) refl

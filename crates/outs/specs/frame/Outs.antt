@@ -4,7 +4,7 @@ use mathlib.Core.List.{List}
 use Prim.Native.Nat.{ℕ}
 use lib.Dec.{ltb}
 use Rattle.ask.specs.Ask.{Answer, refused, accepted, numberIn}
-use Rattle.layout.specs.Geometry.{Geometry, ImageRow, padding, row}
+use Rattle.layout.specs.Geometry.{Geometry, ImageRow, padding, row, PreviewSize}
 use Rattle.parser.specs.head.Header.{FrameRead}
 use Rattle.parser.specs.Frame.{View}
 use Rattle.builder.specs.Build.{Built}
@@ -35,16 +35,6 @@ abbrev pub flagOf : Bool → ℕ
 flagOf true = 1
 flagOf false = 0
 
--- whether a coded row is a row of the image
-abbrev pub isImageRow : ImageRow → Bool
-isImageRow padding = false
-isImageRow (row r) = true
-
--- that row, or what stood in the place lent for it
-abbrev pub rowLeft : ImageRow → ℕ → ℕ
-rowLeft padding was = was
-rowLeft (row r) was = r
-
 -- ---- the places of each call, and the parts of its answer that go there
 -- the geometry of a size
 pub record LayoutPlaces : Type 0 where
@@ -61,6 +51,30 @@ layoutPlaces high slices luma chroma dc ac =
 
 abbrev pub layoutParts : Geometry → LayoutPlaces
 layoutParts g = layoutPlaces (g .alignedHeight) (g .slices) (g .luma) (g .chroma) (g .maxDcLen) (g .maxAcLen)
+
+-- a coded row: whether it is a row of the image, and which one
+pub record RowPlaces : Type 0 where
+  pub there : ℕ
+  pub row : ℕ
+
+abbrev pub rowPlaces : ℕ → ℕ → RowPlaces
+rowPlaces there r = record { there = there; row = r }
+
+-- padding leaves what stood in the place of the row
+abbrev pub rowParts : ℕ → ImageRow → RowPlaces
+rowParts was padding = rowPlaces (flagOf false) was
+rowParts was (row r) = rowPlaces (flagOf true) r
+
+-- the size of the 1/8 preview
+pub record PreviewPlaces : Type 0 where
+  pub width : ℕ
+  pub height : ℕ
+
+abbrev pub previewPlaces : ℕ → ℕ → PreviewPlaces
+previewPlaces width height = record { width = width; height = height }
+
+abbrev pub previewParts : PreviewSize → PreviewPlaces
+previewParts p = previewPlaces (p .width) (p .height)
 
 -- a frame's header
 pub record FramePlaces : Type 0 where

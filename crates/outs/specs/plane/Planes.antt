@@ -3,8 +3,8 @@
 use mathlib.Core.List.{List}
 use Prim.Native.Nat.{ℕ}
 use Rattle.slice.specs.Calls.{Coded, Decoded}
-use Rattle.calls.specs.Previews.{Previewed, Reported, Sized}
-use Rattle.calls.specs.Arguments.{buffers, positions}
+use Rattle.calls.specs.Previews.{Previewed, Reported}
+use Rattle.calls.specs.Arguments.{PerStream, buffers, positions}
 
 -- a coding call: number, both positions, both buffers
 abbrev pub codedAs : ℕ → ℕ → ℕ → List ℕ → List ℕ → Coded
@@ -22,6 +22,9 @@ previewedAs n d upper lower = record { number = n; at = d; upper = upper; lower 
 abbrev pub reportedAs : ℕ → ℕ → List ℕ → Reported
 reportedAs n a report = record { number = n; at = a; report = report }
 
--- a size call: number, both lengths
-abbrev pub sizedAs : ℕ → ℕ → ℕ → Sized
-sizedAs n d a = record { number = n; lengths = positions d a }
+-- a size call: the places of both lengths, and what goes there
+abbrev pub lengthPlaces : ℕ → ℕ → PerStream
+lengthPlaces d a = record { dc = d; ac = a }
+
+abbrev pub lengthParts : PerStream → PerStream
+lengthParts l = l

@@ -15,11 +15,11 @@ from-code-requires c κs = search needs
 sll16-requires : tie.Need-sll16-requires
 sll16-requires c κs = search needs
 
-add1-requires : tie.Need-add1-requires
-add1-requires c κs = search needs
+add-back-requires : tie.Need-add-back-requires
+add-back-requires c κs = search needs
 
-add1-requires-2 : tie.Need-add1-requires-2
-add1-requires-2 c κs = search needs
+add-back-requires-2 : tie.Need-add-back-requires-2
+add-back-requires-2 c κs = search needs
 
 returns : tie.Need-returns
 returns c =
@@ -27,7 +27,7 @@ returns c =
     let t = f .before in
     let s = t .before in
     let a = s .args in
-    lane2 addOf (sfits-of (c .before .sll16 .ok)) (s .fits .prior) (sfits-of (c .add1 .ok)) (c .add1 .ensures)
+    lane2 addOf (sfits-of (c .before .sll16 .ok)) (s .fits .prior) (sfits-of (c .add-back .ok)) (c .add-back .ensures)
     ∙ ap (λ (x : ℤ). addOf x (a .prior))
     (c .before .sll16 .ensures ∙ ap (λ (x : ℤ). sllOf x (a .shift)) (toZ-ofZ (sfits-of (f .from-code .ok)) ∙ f .from-code .ensures)
     ∙ sym (settle-step (a .run) (a .num) (a .shift) (a .here) (t .if1 .taken)))
@@ -37,10 +37,10 @@ returns-2 c =
     let t = c .before in
     let s = t .before in
     let a = s .args in
-    lane2 addOf (s .fits .here) (s .fits .prior) (sfits-of (c .add12 .ok)) (c .add12 .ensures)
+    lane2 addOf (s .fits .here) (s .fits .prior) (sfits-of (c .add-back2 .ok)) (c .add-back2 .ensures)
     ∙ ap (λ (x : ℤ). addOf x (a .prior)) (sym (settle-keep (a .run) (a .num) (a .shift) (a .here) (t .if1 .left)))
 
 pub settled-spec : {M : Type 1} → statement M
 settled-spec =
     tie.close
-    (tie.spec from-code-requires sll16-requires add1-requires add1-requires-2 returns returns-2)
+    (tie.spec from-code-requires sll16-requires add-back-requires add-back-requires-2 returns returns-2)

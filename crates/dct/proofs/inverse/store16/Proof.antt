@@ -11,7 +11,7 @@ returns c =
     let u = c .before .before in
     let p = u .before .before .before in
     let s = p .before .before in
-    u .store16 .ensures ∙ store-law true (s .args .stride) (s .args .level) (s .args .v) (s .args .rows .now) (rw (toZ-ofZ (s .fits .level)) at (p .words .ensures))
+    u .store16 .ensures ∙ store-law true (s .args .stride) (s .args .level) (s .args .v) (s .args .rows .now) (rw (toZ-ofZ (s .fits .level)) at (p .samples .ensures))
 
 pub store16-spec : {M : Type 1} → statement M
 store16-spec = tie.close (tie.spec (λ c κs. search needs) (λ c κs. search needs) (λ c. search needs) returns)

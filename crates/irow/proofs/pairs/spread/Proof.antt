@@ -1,70 +1,45 @@
--- `irow::pairs::spread` fills the places in order, row by row.
-use borrow.Author.Needs.{needs, sfits-of}
-use mathlib.Core.Path.{_≡_, refl, _∙_}
+use borrow.Author.Needs.{needs}
+use mathlib.Core.Path.{refl, ap, _∙_}
 use mathlib.Core.List.{List}
-use Prim.Native.Nat.{ℕ, _+_, _-_, _*_, _/_, _%_, _<_}
+use Prim.Native.Nat.{ℕ, _-_}
 use native.Mathlib.Omega.{arith}
 use lib.IntN.{ℤ}
-use mir.Facts.{toZ-ofZ}
-use Rattle.scalar.specs.Tab.{lane}
-use Rattle.scalar.proofs.Fill.{Filled}
-use Rattle.scalar.proofs.InRows.{InRow, row-of, col-of, row-begins, row-next, row-ends, rows-done}
-use Rattle.irow.specs.pairs.Pairs.{spreadPlace, inverseSpreadOf}
+use Rattle.shuffles.specs.Shuffles.{mm-shuffle-epi32-16}
+use Rattle.lanes.specs.rows.Block.{rowOf}
+use Rattle.lanes.proofs.rows.Loops.{RowsPut, put-done}
+use Rattle.irow.specs.pairs.Pairs.{spreadBy}
+use Rattle.irow.proofs.Turn.{turn}
 use Rattle.irow.proofs.pairs.spread.Statement.{statement}
 use Rattle.irow.proofs.pairs.spread.Tie as tie
 
-abbrev at : List ℤ → ℕ → ℕ → ℤ
-at a from i = lane a (8 * (i / 8) + spreadPlace from (i % 8))
-
-place : (a : List ℤ) (from r k : ℕ) → k < 8 → lane a (8 * r + spreadPlace from k) ≡ at a from (8 * r + k)
-place a from r k h = rw (row-of r k h, col-of r k h) refl
-
-abbrev Inv-loop2 : tie.InvT-loop2
-Inv-loop2 a from x₀ r k₀ x k = InRow (at a from) x r k
-
-abbrev μ-loop2 : tie.MeasureT-loop2
-μ-loop2 a from x₀ r k₀ x k = 8 - k
+abbrev at : List ℤ → ℕ → ℕ → List ℤ
+at a imm r = mm-shuffle-epi32-16 (rowOf a r) imm
 
 abbrev Inv-loop : tie.InvT-loop
-Inv-loop a from x₀ r₀ x r = Filled 64 (at a from) x (8 * r)
+Inv-loop a imm x₀ r₀ x r = RowsPut (at a imm) x r
 
 abbrev μ-loop : tie.MeasureT-loop
-μ-loop a from x₀ r₀ x r = 8 - r
+μ-loop a imm x₀ r₀ x r = 8 - r
 
-loop2-holds : tie.Need-loop2-holds Inv-loop2 μ-loop2 Inv-loop μ-loop
-loop2-holds c =
-    let l = c .before in
-    row-begins (at (l .before .args .a .now) (l .before .args .from)) (l .loop .x) (l .loop .r) (l .loop .inv)
-
-loop2-again : tie.Need-loop2-again Inv-loop2 μ-loop2 Inv-loop μ-loop
-loop2-again c =
-    let i = c .before in
-    let j = i .before in
-    let o = j .before in
-    let l = o .before in
-    let r = l .loop .r in
-    let k = j .loop2 .k in
-    let h = i .loop2-test .taken in
-    let a = l .before .args .a .now in
-    let from = l .before .args .from in
-    row-next (at a from) (j .loop2 .x) r k (o .loop-test .taken) h (j .loop2 .inv) (toZ-ofZ (sfits-of (c .x .given)) ∙ place a from r k h)
-
-loop-again : tie.Need-loop-again Inv-loop2 μ-loop2 Inv-loop μ-loop
+loop-again : tie.Need-loop-again Inv-loop μ-loop
 loop-again c =
-    let j = c .before in
-    let l = j .before .before in
-    row-ends (at (l .before .args .a .now) (l .before .args .from)) (j .loop2 .x) (l .loop .r) (j .loop2 .k) (c .loop2-test .left) (j .loop2 .inv)
+    let y = c .before .before in
+    let o = y .before in
+    let n = o .before in
+    let l = n .before in
+    let s = l .before .args in
+    turn (at (s .a .now) (s .imm)) (l .loop .x) (l .loop .r) (n .loop-test .taken) (l .loop .inv) (c .put .ensures)
+    (y .shuffle32-16 .ensures ∙ ap (λ (x : List ℤ). mm-shuffle-epi32-16 x (s .imm)) (o .row .ensures))
 
-returns : tie.Need-returns Inv-loop2 μ-loop2 Inv-loop μ-loop
-unfolding inverseSpreadOf
+returns : tie.Need-returns Inv-loop μ-loop
+unfolding spreadBy
 returns c =
     let l = c .before in
-    rows-done (at (l .before .args .a .now) (l .before .args .from)) (l .loop .x) (l .loop .r) (c .loop-test .left) (l .loop .inv)
+    let s = l .before .args in
+    put-done (at (s .a .now) (s .imm)) (l .loop .x) (l .loop .r) (omega arith) (l .loop .inv)
 
 pub spread-spec : {M : Type 1} → statement M
 spread-spec =
     tie.close
-    (tie.spec Inv-loop2 μ-loop2 Inv-loop μ-loop (λ c. (omega arith, (refl, refl))) loop2-holds
-    (λ c. omega arith) (λ c. omega arith) (λ c. omega arith) (λ c. omega arith) (λ c. omega arith) (λ c. omega arith) (λ c. omega arith) (λ c. omega arith)
-    (λ c. omega arith) (λ c. omega arith) (λ c. omega arith) (λ c. omega arith) (λ c. omega arith) loop2-again (λ c. omega arith) (λ c. omega arith)
-    loop-again returns)
+    (tie.spec
+    Inv-loop μ-loop (λ c. (omega arith, (refl, refl))) (λ c κs. search needs) (λ c κs. search needs) (λ c κs. search needs) (λ c. omega arith) (λ c. omega arith) loop-again returns)

@@ -2,6 +2,7 @@
 use borrow.Author.Needs.{needs}
 use mathlib.Core.Path.{_≡_, sym}
 use native.Mathlib.Omega.{arith}
+use Rattle.layout.specs.Geometry.{geometryOf}
 use Rattle.layout.proofs.Laws.{sized-alone, Sized, fits, no-size}
 use Rattle.layout.proofs.Layout.new.Statement.{statement}
 use Rattle.layout.proofs.Layout.new.Tie as tie
@@ -16,7 +17,7 @@ asked-yes t = sized-alone (start t .args .width) (start t .args .height) (t .bef
 returns : tie.Need-returns
 returns c =
     let a = c .before .before .args in
-    sym (no-size (a .width) (a .height) (c .before .size-number .ensures) (c .if1 .taken))
+    sym (no-size (a .width) (a .height) (geometryOf (a .width) (a .height)) (c .before .size-number .ensures) (c .if1 .taken))
 
 align8-requires : tie.Need-align8-requires
 align8-requires c κs = asked-yes c .wide
@@ -48,7 +49,7 @@ returns-2 c =
       c .before .before .before .before .align82 .ensures,
       c .before .before .before .before .before .align8 .ensures,
     )
-    (sym (fits (a .width) (a .height) (t .before .size-number .ensures) (t .if1 .left)))
+    (sym (fits (a .width) (a .height) (geometryOf (a .width) (a .height)) (t .before .size-number .ensures) (t .if1 .left)))
 
 pub new-spec : {M : Type 1} → statement M
 new-spec =
