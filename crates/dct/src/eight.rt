@@ -9,6 +9,6 @@ ghost use Rattle.idct.specs.Inverse.{inverseOf};
 pub fn idct_core(nat: [i16; 64], d: &[u16; 64]) -> [i16; 64]
     ensures { λ r. ⌜ r ≡ inverseOf false (pos 0) (dequantiseWith (dequantShift false) (now (d .entry)) nat) ⌝ }
 {
-    let b = quant::eight::dequant(nat, d);
+    let b = quant::eight::dequant(nat, d, 4);
     idct::eight::inverse(b)
 }

@@ -9,6 +9,6 @@ ghost use Rattle.idct.specs.Inverse.{inverseOf};
 pub fn idct_core(nat: [i16; 64], d: &[u16; 64]) -> [i16; 64]
     ensures { λ r. ⌜ r ≡ inverseOf true (pos 0) (dequantiseWith (dequantShift true) (now (d .entry)) nat) ⌝ }
 {
-    let b = quant::ten::dequant(nat, d);
+    let b = quant::ten::dequant(nat, d, 2);
     idct::ten::inverse(b)
 }

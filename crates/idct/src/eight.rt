@@ -148,7 +148,7 @@ pub fn columns(w: [i16; 64]) -> [i16; 64]
 pub fn inverse(b: [i16; 64]) -> [i16; 64]
     ensures { λ r. ⌜ r ≡ inverseOfPaired false b ⌝ }
 {
-    let w = irow::eight::paired_rows(b);
+    let w = irow::eight::paired_rows(&b);
     let v = columns(w);
     crate::mirror(v)
 }

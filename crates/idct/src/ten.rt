@@ -149,7 +149,7 @@ pub fn columns(w: [i16; 64]) -> [i16; 64]
 pub fn inverse(b: [i16; 64]) -> [i16; 64]
     ensures { λ r. ⌜ r ≡ inverseOfPaired true b ⌝ }
 {
-    let w = irow::ten::paired_rows(b);
+    let w = irow::ten::paired_rows(&b);
     let v = columns(w);
     crate::mirror(v)
 }

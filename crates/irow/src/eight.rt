@@ -53,17 +53,17 @@ fn sums(m0: [i32; 32], m1: [i32; 32], m2: [i32; 32], m3: [i32; 32]) -> [i16; 64]
 }
 
 // The row pass on a block whose rows stand in the order 0 2 1 3 4 6 5 7, each row's right half mirrored (proofs/Pass, rows-law).
-pub fn paired_rows(b: [i16; 64]) -> [i16; 64]
-    ensures { λ r. ⌜ r ≡ pairedRows (pos 1024) 11 b inverseTab ⌝ }
+pub fn paired_rows(b: &[i16; 64]) -> [i16; 64]
+    ensures { λ r. ⌜ r ≡ pairedRows (pos 1024) 11 (now (b .entry)) inverseTab ⌝ }
 {
     let t = table();
-    let x0 = spread(&b, 0x88);
+    let x0 = spread(b, 0x88);
     let m0 = pairs(&x0, &t, 0);
-    let x1 = spread(&b, 0x22);
+    let x1 = spread(b, 0x22);
     let m1 = pairs(&x1, &t, 64);
-    let x2 = spread(&b, 0xdd);
+    let x2 = spread(b, 0xdd);
     let m2 = pairs(&x2, &t, 128);
-    let x3 = spread(&b, 0x77);
+    let x3 = spread(b, 0x77);
     let m3 = pairs(&x3, &t, 192);
     sums(m0, m1, m2, m3)
 }

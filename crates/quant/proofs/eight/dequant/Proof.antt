@@ -9,10 +9,10 @@ use Rattle.quant.proofs.eight.dequant.Statement.{statement}
 use Rattle.quant.proofs.eight.dequant.Tie as tie
 
 abbrev Inv-loop : tie.InvT-loop
-Inv-loop d n w₀ r₀ w r = RowsPut (rowAt 4 d n) w r
+Inv-loop d shift n w₀ r₀ w r = RowsPut (rowAt shift d n) w r
 
 abbrev μ-loop : tie.MeasureT-loop
-μ-loop d n w₀ r₀ w r = 8 - r
+μ-loop d shift n w₀ r₀ w r = 8 - r
 
 loop-again : tie.Need-loop-again Inv-loop μ-loop
 loop-again c =
@@ -22,14 +22,14 @@ loop-again c =
     let n = x .before .before in
     let l = n .before in
     let s = l .before .args in
-    turn (rowAt 4 (s .d .now) (s .t1)) (l .loop .w) (l .loop .r) (n .loop-test .taken) (l .loop .inv) (c .put .ensures)
-    (row-of-calls 4 (s .d .now) (s .t1) (l .loop .r) (x .row .ensures) (q .numbers .ensures) (y .dequant-row .ensures))
+    turn (rowAt (s .shift) (s .d .now) (s .t1)) (l .loop .w) (l .loop .r) (n .loop-test .taken) (l .loop .inv) (c .put .ensures)
+    (row-of-calls (s .shift) (s .d .now) (s .t1) (l .loop .r) (x .row .ensures) (q .numbers .ensures) (y .dequant-row .ensures))
 
 returns : tie.Need-returns Inv-loop μ-loop
 returns c =
     let l = c .before in
     let s = l .before .args in
-    put-done (rowAt 4 (s .d .now) (s .t1)) (l .loop .w) (l .loop .r) (omega arith) (l .loop .inv) ∙ block-law 4 (s .d .now) (s .t1)
+    put-done (rowAt (s .shift) (s .d .now) (s .t1)) (l .loop .w) (l .loop .r) (omega arith) (l .loop .inv) ∙ block-law (s .shift) (s .d .now) (s .t1)
 
 pub dequant-spec : {M : Type 1} → statement M
 dequant-spec =

@@ -15,7 +15,7 @@ returns c =
     let u = y .before in
     let s = u .before in
     let small : (i : ℕ) → Fits w16 (getD (s .args .d) i 0) = λ i. search needs in
-    row-law 2 (s .args .d) (s .args .x) small (u .load-u .ensures) (y .mullo .ensures) (l .shufflelo .ensures) (h .shufflehi .ensures) (c .srai16 .ensures)
+    row-law (s .args .shift) (s .args .d) (s .args .x) small (u .load-u .ensures) (y .mullo .ensures) (l .shufflelo .ensures) (h .shufflehi .ensures) (c .srai16 .ensures)
 
 pub dequant-row-spec : {M : Type 1} → statement M
 dequant-row-spec = tie.close (tie.spec (λ c κs. search needs) (λ c κs. search needs) (λ c κs. search needs) (λ c κs. search needs) (λ c κs. search needs) returns)
