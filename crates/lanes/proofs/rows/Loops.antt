@@ -10,10 +10,9 @@ use lib.ListN.{length, take}
 use lib.Seq.{ext-getD, getD-take, length-take-le, length-sets}
 use borrow.Author.Tests.{ltb-true, ltb-false}
 use Rattle.scalar.specs.Tab.{tab, lane}
-use Rattle.scalar.proofs.Fill.{Filled, length-tab, getD-tab, tab-ext, list-tab, filled-done}
-use Rattle.scalar.proofs.InRows.{row-of, col-of}
+use Rattle.scalar.proofs.Fill.{Filled, length-tab, getD-tab, tab-ext, filled-done}
 use Rattle.lanes.specs.rows.Block.{rowOf, putOf, inRows, blockOf}
-use Rattle.lanes.proofs.rows.Stored.{stored-at, stored-before, stored-behind}
+use Rattle.lanes.proofs.rows.Stored.{stored-at, stored-before}
 
 -- lane k of row r
 pub row-at : (b : List ℤ) (r k : ℕ) → k < 8 → lane (rowOf b r) k ≡ lane b (8 * r + k)
@@ -30,10 +29,6 @@ put-same b r x i g s e =
 pub put-before : (b : List ℤ) (r : ℕ) (x : List ℤ) (i : ℕ) → i < 8 * r → lane (putOf b r x) i ≡ lane b i
 unfolding putOf
 put-before b r x i h = stored-before (tab 8 (lane x)) b (8 * r) i (pos 0) h
-
-pub put-behind : (b : List ℤ) (r : ℕ) (x : List ℤ) (i : ℕ) → 8 * r + 8 ≤ i → lane (putOf b r x) i ≡ lane b i
-unfolding putOf
-put-behind b r x i h = stored-behind (tab 8 (lane x)) b (8 * r) i (pos 0) (omega (arith, length-tab 8 (lane x)))
 
 pub length-put : (b : List ℤ) (r : ℕ) (x : List ℤ) → length (putOf b r x) ≡ length b
 unfolding putOf
@@ -114,9 +109,3 @@ module _ (g : ℕ → List ℤ) where
       (λ i l.
       let p : 8 * (i / 8) + i % 8 ≡ i = omega arith in
       h (i / 8) (i % 8) (omega arith) (omega arith) ∙ ap f p)
-
-  -- its rows
-  pub row-of-block : (r : ℕ) → r < 8 → length (g r) ≡ 8 → rowOf (blockOf g) r ≡ g r
-  unfolding rowOf blockOf
-  row-of-block r h e =
-      tab-ext 8 (λ k l. getD-tab 64 (inRows g) (8 * r + k) (pos 0) (omega arith) ∙ rw (row-of r k l, col-of r k l) refl) ∙ sym (list-tab 8 (g r) (pos 0) e)

@@ -22,14 +22,10 @@ module _ {A : Type 0} where
       let s : k + 1 ≡ suc k = omega arith in
       rw (e, g, s) (snoc f l i 0 k (i + k) k refl (omega arith))
 
-  -- before the stores, behind them, and what they left
+  -- before the stores, and what they left
   pub stored-before : (vs l : List A) (i j : ℕ) (d : A) → j < i → getD (sets l i vs) j d ≡ getD l j d
   stored-before [] l i j d h = refl
   stored-before (a ∷ vs) l i j d h = stored-before vs (set l i a) (suc i) j d (omega arith) ∙ getD-set-other l i j a d (λ e. omega arith)
-
-  pub stored-behind : (vs l : List A) (i j : ℕ) (d : A) → i + length vs ≤ j → getD (sets l i vs) j d ≡ getD l j d
-  stored-behind [] l i j d h = refl
-  stored-behind (a ∷ vs) l i j d h = stored-behind vs (set l i a) (suc i) j d (omega arith) ∙ getD-set-other l i j a d (λ e. omega arith)
 
   pub stored-at : (vs l : List A) (i k j : ℕ) (d : A) → k < length vs → j ≡ i + k → i + length vs ≤ length l → getD (sets l i vs) j d ≡ getD vs k d
   stored-at [] l i k j d h p g = absurd (omega arith)
