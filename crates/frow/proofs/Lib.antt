@@ -1,2 +1,3 @@
 pub mod Wrap
+pub mod Lanewise
 pub mod Whole

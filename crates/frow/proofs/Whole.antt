@@ -8,12 +8,17 @@ use native.Mathlib.Nat.{add-zero}
 use lib.IntN.{ℤ, pos, _*ℤ_}
 use lib.Dec.{eqb}
 use mir.Val.{sel}
-use borrow.Author.Tests.{eqb-true, eqb-false}
-use Rattle.scalar.specs.Scalar.{sat16, maddOf, add32Of, sraOf}
-use Rattle.scalar.proofs.Fill.{getD-tab, tab-ext}
+use borrow.Author.Tests.{eqb-true, eqb-false, eq-eqb, ne-eqb}
+use Rattle.scalar.specs.Scalar.{sat16, addsOf, subsOf, maddOf, add32Of, sraOf}
+use Rattle.scalar.proofs.Fill.{getD-tab}
+use Rattle.scalar.proofs.InRows.{row-of, col-of}
+use Rattle.lanes.proofs.rows.Loops.{by-place}
 use Rattle.frow.specs.rounding.Tail.{tailOf}
-use Rattle.frow.specs.steps.Order.{forwardMirrorOf, sumsOf, diffsOf, forwardSpreadOf, forwardPairsOf, forwardHalfOf, forwardJoinOf}
-use Rattle.frow.proofs.steps.Opposite.{sum-side, diff-side}
+use Rattle.frow.specs.rounding.Tail.{endRow, endsOf}
+use Rattle.frow.specs.sides.Halves.{sumsOf, diffsOf, sidesOf}
+use Rattle.frow.specs.declared.sides.SideBlocks.{SideBlocks}
+use Rattle.frow.specs.steps.Order.{swappedOf, forwardPairsOf}
+use Rattle.frow.proofs.Lanewise.{opposite-at, sums-row, diffs-row, swapped-at, end-row}
 use Rattle.frow.specs.Rows.{at, sideAt, tableAt, dotOf, entryOf, nearOf, farOf, coefficientAt, forwardRowsOf}
 use Rattle.frow.specs.Parts.{tablePart}
 use Rattle.frow.proofs.Wrap.{four}
@@ -24,7 +29,7 @@ tail-dot x0 c0 x1 c1 x2 c2 x3 c3 = ap (λ (z : ℤ). sat16 (sraOf z 16)) (four (
 
 -- ---- the four numbers of coefficient 2 j + o of a row, where q counts four coefficients a row
 
-near-of : (q o e : ℕ) → o < 2 → e < 2 → (2 * q + e + 0) % 4 ≡ nearOf (2 * (q % 4) + o) + e
+near-of : (q o e : ℕ) → o < 2 → e < 2 → (2 * q + e) % 4 ≡ nearOf (2 * (q % 4) + o) + e
 near-of q o e g h =
     let a : (2 * (q % 4) + o) % 4 / 2 ≡ q % 2 = omega arith in
     rw a (omega arith)
@@ -37,12 +42,6 @@ far-of q o e g h =
 odd-one : (j o : ℕ) → o < 2 → (2 * j + o) % 2 ≡ o
 odd-one j o h = omega arith
 
-spread-at : (x : List ℤ) (from q e j k : ℕ) → q < 32 → e < 2 → j ≡ 2 * q + e → (2 * q + e + from) % 4 ≡ k → at (forwardSpreadOf x from) j ≡ at x (8 * (q / 4) + k)
-unfolding forwardSpreadOf
-spread-at x from q e j k h l t g =
-    let a : j / 8 ≡ q / 4 = omega arith in
-    getD-tab 64 _ j (pos 0) (omega arith) ∙ rw (a, t, g) refl
-
 table-at : (o f q e j n : ℕ) → q < 32 → e < 2 → j ≡ 2 * q + e → n ≡ entryOf (2 * (q % 4) + o) + 8 * f + e → at (tablePart o f) j ≡ tableAt (q / 4) n
 unfolding tablePart
 table-at o f q e j n h l t g =
@@ -51,69 +50,106 @@ table-at o f q e j n h l t g =
     let c : j % 2 ≡ e = omega arith in
     getD-tab 64 _ j (pos 0) (omega arith) ∙ rw (a, b, c, g) refl
 
+-- the place of a lane whose pair is swapped
+swap-small : (j : ℕ) → 4 * (j % 8 / 4) + (j % 8 + 2) % 4 < 8
+swap-small j = omega arith
+
+swap-below : (j : ℕ) → j < 64 → 8 * (j / 8) + (4 * (j % 8 / 4) + (j % 8 + 2) % 4) < 64
+swap-below j h = omega (arith, swap-small j)
+
+swap-place : (r a m : ℕ) → m < 4 → (8 * r + (4 * a + m)) % 4 ≡ m
+swap-place r a m h = omega arith
+
 -- the even coefficients of a block (o is 0), or the odd ones (1), from the sides that are theirs
-module _ (b : List ℤ) (o : ℕ) (small : o < 2) (x : List ℤ) (sides : (r k u : ℕ) → r < 8 → k < 8 → u % 2 ≡ o → at x (8 * r + k) ≡ sideAt b r u k) where
+module _ (b : List ℤ) (o : ℕ) (small : o < 2) (x : List ℤ) (sides : (i u : ℕ) → i < 64 → u % 2 ≡ o → at x i ≡ sideAt b (i / 8) u (i % 4)) where
   abbrev coefficient : ℕ → ℕ
   coefficient q = 2 * (q % 4) + o
 
-  side : (from q e j k : ℕ) → q < 32 → e < 2 → j ≡ 2 * q + e → (2 * q + e + from) % 4 ≡ k → at (forwardSpreadOf x from) j ≡ sideAt b (q / 4) (coefficient q) k
-  side from q e j k h l t g =
-      spread-at x from q e j k h l t g ∙ sides (q / 4) k (coefficient q) (omega arith) (omega arith) (odd-one (q % 4) o small)
+  side : (i q k : ℕ) → i < 64 → i / 8 ≡ q / 4 → i % 4 ≡ k → at x i ≡ sideAt b (q / 4) (coefficient q) k
+  side i q k h p g = sides i (coefficient q) h (odd-one (q % 4) o small) ∙ rw (p, g) refl
 
-  half-at : (q : ℕ) → q < 32 → at (forwardHalfOf (forwardPairsOf (forwardSpreadOf x 0) (tablePart o 0)) (forwardPairsOf (forwardSpreadOf x 2) (tablePart o 1))) q ≡ coefficientAt b (q / 4) (coefficient q)
-  unfolding forwardHalfOf forwardPairsOf coefficientAt
-  half-at q l =
-      getD-tab 32 _ q (pos 0) l
-      ∙ rw (
-        getD-tab 32 (λ i. maddOf (at (forwardSpreadOf x 0) (2 * i)) (at (tablePart o 0) (2 * i)) (at (forwardSpreadOf x 0) (2 * i + 1)) (at (tablePart o 0) (2 * i + 1))) q (pos 0) l,
-        getD-tab 32 (λ i. maddOf (at (forwardSpreadOf x 2) (2 * i)) (at (tablePart o 1) (2 * i)) (at (forwardSpreadOf x 2) (2 * i + 1)) (at (tablePart o 1) (2 * i + 1))) q (pos 0) l,
+  near : (q e j k : ℕ) → q < 32 → e < 2 → j ≡ 2 * q + e → (2 * q + e) % 4 ≡ k → at x j ≡ sideAt b (q / 4) (coefficient q) k
+  near q e j k h l t g = side j q k (omega arith) (omega arith) (omega arith)
+
+  far : (q e j k : ℕ) → q < 32 → e < 2 → j ≡ 2 * q + e → (2 * q + e + 2) % 4 ≡ k → at (swappedOf x) j ≡ sideAt b (q / 4) (coefficient q) k
+  far q e j k h l t g =
+      let r : j / 8 ≡ q / 4 = omega arith in
+      let m : (j % 8 + 2) % 4 ≡ (2 * q + e + 2) % 4 = omega arith in
+      swapped-at x j (omega arith)
+      ∙ side (8 * (j / 8) + (4 * (j % 8 / 4) + (j % 8 + 2) % 4)) q k (swap-below j (omega arith)) (row-of (j / 8) (4 * (j % 8 / 4) + (j % 8 + 2) % 4) (swap-small j) ∙ r)
+      (swap-place (j / 8) (j % 8 / 4) ((j % 8 + 2) % 4) (omega arith) ∙ m ∙ g)
+
+  coefficient-at : (q : ℕ) → q < 32 → tailOf (at (forwardPairsOf x (tablePart o 0)) q) (at (forwardPairsOf (swappedOf x) (tablePart o 1)) q) ≡ coefficientAt b (q / 4) (coefficient q)
+  unfolding forwardPairsOf coefficientAt
+  coefficient-at q l =
+      rw (
+        getD-tab 32 (λ i. maddOf (at x (2 * i)) (at (tablePart o 0) (2 * i)) (at x (2 * i + 1)) (at (tablePart o 0) (2 * i + 1))) q (pos 0) l,
+        getD-tab 32 (λ i. maddOf (at (swappedOf x) (2 * i)) (at (tablePart o 1) (2 * i)) (at (swappedOf x) (2 * i + 1)) (at (tablePart o 1) (2 * i + 1))) q (pos 0) l,
       )
       (tail-dot _ _ _ _ _ _ _ _
       ∙ rw (
-        side 0 q 0 (2 * q) (nearOf (coefficient q)) l (omega arith) (omega arith) (near-of q o 0 small (omega arith) ∙ add-zero _),
+        near q 0 (2 * q) (nearOf (coefficient q)) l (omega arith) (omega arith) (near-of q o 0 small (omega arith) ∙ add-zero _),
         table-at o 0 q 0 (2 * q) (entryOf (coefficient q)) l (omega arith) (omega arith) (omega arith),
-        side 0 q 1 (2 * q + 1) (nearOf (coefficient q) + 1) l (omega arith) (omega arith) (near-of q o 1 small (omega arith)),
+        near q 1 (2 * q + 1) (nearOf (coefficient q) + 1) l (omega arith) (omega arith) (near-of q o 1 small (omega arith)),
         table-at o 0 q 1 (2 * q + 1) (entryOf (coefficient q) + 1) l (omega arith) (omega arith) (omega arith),
-        side 2 q 0 (2 * q) (farOf (coefficient q)) l (omega arith) (omega arith) (far-of q o 0 small (omega arith) ∙ add-zero _),
+        far q 0 (2 * q) (farOf (coefficient q)) l (omega arith) (omega arith) (far-of q o 0 small (omega arith) ∙ add-zero _),
         table-at o 1 q 0 (2 * q) (entryOf (coefficient q) + 8) l (omega arith) (omega arith) (omega arith),
-        side 2 q 1 (2 * q + 1) (farOf (coefficient q) + 1) l (omega arith) (omega arith) (far-of q o 1 small (omega arith)),
+        far q 1 (2 * q + 1) (farOf (coefficient q) + 1) l (omega arith) (omega arith) (far-of q o 1 small (omega arith)),
         table-at o 1 q 1 (2 * q + 1) (entryOf (coefficient q) + 9) l (omega arith) (omega arith) (omega arith),
       ) refl)
 
--- the whole row pass
+-- ---- the whole row pass
+
+sum-side : (b : List ℤ) (i u : ℕ) → i < 64 → u % 2 ≡ 0 → at (sumsOf b) i ≡ sideAt b (i / 8) u (i % 4)
+unfolding sideAt
+sum-side b i u h e = rw (eq-eqb (u % 2) 0 e) (opposite-at addsOf _ sums-row b i h)
+
+diff-side : (b : List ℤ) (i u : ℕ) → i < 64 → u % 2 ≡ 1 → at (diffsOf b) i ≡ sideAt b (i / 8) u (i % 4)
+unfolding sideAt
+diff-side b i u h e = rw (ne-eqb (u % 2) 0 (λ (z : u % 2 ≡ 0). omega arith)) (opposite-at subsOf _ diffs-row b i h)
+
 module _ (b : List ℤ) where
-  abbrev even : List ℤ
-  even = forwardHalfOf (forwardPairsOf (forwardSpreadOf (sumsOf b (forwardMirrorOf b)) 0) (tablePart 0 0)) (forwardPairsOf (forwardSpreadOf (sumsOf b (forwardMirrorOf b)) 2) (tablePart 0 1))
+  abbrev m0 : List ℤ
+  m0 = forwardPairsOf (sumsOf b) (tablePart 0 0)
 
-  abbrev odd : List ℤ
-  odd = forwardHalfOf (forwardPairsOf (forwardSpreadOf (diffsOf b (forwardMirrorOf b)) 0) (tablePart 1 0)) (forwardPairsOf (forwardSpreadOf (diffsOf b (forwardMirrorOf b)) 2) (tablePart 1 1))
+  abbrev m1 : List ℤ
+  m1 = forwardPairsOf (swappedOf (sumsOf b)) (tablePart 0 1)
 
-  even-at : (q : ℕ) → q < 32 → at even q ≡ coefficientAt b (q / 4) (2 * (q % 4) + 0)
-  even-at q l = half-at b 0 (omega arith) (sumsOf b (forwardMirrorOf b)) (λ r k u. sum-side b r k u) q l
+  abbrev m2 : List ℤ
+  m2 = forwardPairsOf (diffsOf b) (tablePart 1 0)
 
-  odd-at : (q : ℕ) → q < 32 → at odd q ≡ coefficientAt b (q / 4) (2 * (q % 4) + 1)
-  odd-at q l = half-at b 1 (omega arith) (diffsOf b (forwardMirrorOf b)) (λ r k u. diff-side b r k u) q l
+  abbrev m3 : List ℤ
+  m3 = forwardPairsOf (swappedOf (diffsOf b)) (tablePart 1 1)
 
-  pub rows-is : forwardJoinOf even odd ≡ forwardRowsOf b
-  unfolding forwardJoinOf forwardRowsOf
-  rows-is = tab-ext 64 (λ i l. go i l (eqb (i % 2) 0) refl)
-    where
-      go : (i : ℕ) → i < 64 → (t : Bool) → eqb (i % 2) 0 ≡ t → sel (eqb (i % 2) 0) (at even (i / 2)) (at odd (i / 2)) ≡ coefficientAt b (i / 8) (i % 8)
-      go i l true e =
-          let s : i % 2 ≡ 0 = eqb-true (i % 2) 0 e in
-          let a : i / 2 / 4 ≡ i / 8 = omega arith in
-          let c : 2 * (i / 2 % 4) + 0 ≡ i % 8 = omega arith in
-          rw e (even-at (i / 2) (omega arith) ∙ rw (a, c) refl)
-      go i l false e =
-          let s : i % 2 ≡ 0 → ⊥ = eqb-false (i % 2) 0 e in
-          let o : i % 2 ≡ 1 = omega arith in
-          let a : i / 2 / 4 ≡ i / 8 = omega arith in
-          let c : 2 * (i / 2 % 4) + 1 ≡ i % 8 = omega arith in
-          rw e (odd-at (i / 2) (omega arith) ∙ rw (a, c) refl)
+  abbrev lastAt : ℕ → ℕ → ℤ
+  lastAt r k = sel (eqb (k % 2) 0) (tailOf (at m0 (4 * r + k / 2)) (at m1 (4 * r + k / 2))) (tailOf (at m2 (4 * r + k / 2)) (at m3 (4 * r + k / 2)))
+
+  last-at : (r k : ℕ) → r < 8 → k < 8 → (t : Bool) → eqb (k % 2) 0 ≡ t → lastAt r k ≡ coefficientAt b r k
+  last-at r k g h true e =
+      let s : k % 2 ≡ 0 = eqb-true (k % 2) 0 e in
+      let a : (4 * r + k / 2) / 4 ≡ r = omega arith in
+      let c : 2 * ((4 * r + k / 2) % 4) + 0 ≡ k = omega arith in
+      rw e (coefficient-at b 0 (omega arith) (sumsOf b) (λ i u. sum-side b i u) (4 * r + k / 2) (omega arith) ∙ rw (a, c) refl)
+  last-at r k g h false e =
+      let s : k % 2 ≡ 0 → ⊥ = eqb-false (k % 2) 0 e in
+      let o : k % 2 ≡ 1 = omega arith in
+      let a : (4 * r + k / 2) / 4 ≡ r = omega arith in
+      let c : 2 * ((4 * r + k / 2) % 4) + 1 ≡ k = omega arith in
+      rw e (coefficient-at b 1 (omega arith) (diffsOf b) (λ i u. diff-side b i u) (4 * r + k / 2) (omega arith) ∙ rw (a, c) refl)
+
+  rows-is : endsOf m0 m1 m2 m3 ≡ forwardRowsOf b
+  unfolding forwardRowsOf
+  rows-is =
+      by-place (endRow m0 m1 m2 m3) (λ i. coefficientAt b (i / 8) (i % 8))
+      (λ r k g h.
+      ap (λ (l : List ℤ). at l k) (end-row m0 m1 m2 m3 r)
+      ∙ getD-tab 8 (lastAt r) k (pos 0) h
+      ∙ last-at r k g h (eqb (k % 2) 0) refl
+      ∙ rw (row-of r k h, col-of r k h) refl)
 
 -- the same, from what each step of the code returns
-pub row-law : (b : List ℤ) {z s d x0 x2 y0 y2 m0 m1 m2 m3 even odd r : List ℤ} → z ≡ forwardMirrorOf b → s ≡ sumsOf b z → d ≡ diffsOf b z
-    → x0 ≡ forwardSpreadOf s 0 → m0 ≡ forwardPairsOf x0 (tablePart 0 0) → x2 ≡ forwardSpreadOf s 2 → m1 ≡ forwardPairsOf x2 (tablePart 0 1) → even ≡ forwardHalfOf m0 m1
-    → y0 ≡ forwardSpreadOf d 0 → m2 ≡ forwardPairsOf y0 (tablePart 1 0) → y2 ≡ forwardSpreadOf d 2 → m3 ≡ forwardPairsOf y2 (tablePart 1 1) → odd ≡ forwardHalfOf m2 m3
-    → r ≡ forwardJoinOf even odd → r ≡ forwardRowsOf b
-row-law b e1 e2 e3 a0 a1 a2 a3 a4 b0 b1 b2 b3 b4 e = e ∙ rw (a4, b4, a1, a3, b1, b3, a0, a2, b0, b2, e2, e3, e1) (rows-is b)
+pub row-law : (b : List ℤ) {v : SideBlocks} {x y n0 n1 n2 n3 r : List ℤ} → v ≡ sidesOf b
+    → n0 ≡ forwardPairsOf (v .sums) (tablePart 0 0) → x ≡ swappedOf (v .sums) → n1 ≡ forwardPairsOf x (tablePart 0 1)
+    → n2 ≡ forwardPairsOf (v .diffs) (tablePart 1 0) → y ≡ swappedOf (v .diffs) → n3 ≡ forwardPairsOf y (tablePart 1 1)
+    → r ≡ endsOf n0 n1 n2 n3 → r ≡ forwardRowsOf b
+row-law b ev a0 ax a1 b0 by b1 e = e ∙ rw (a0, a1, ax, b0, b1, by, ev) (rows-is b)

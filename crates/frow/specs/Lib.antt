@@ -1,4 +1,5 @@
 pub mod Rows
 pub mod Parts
 pub mod rounding
+pub mod sides
 pub mod steps

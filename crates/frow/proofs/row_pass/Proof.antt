@@ -10,39 +10,15 @@ use Rattle.frow.proofs.row_pass.Tie as tie
 returns : tie.Need-returns
 unfolding tablePart tabFrom tableAt ftab1 ftab2 ftab3 ftab4
 returns c =
-    let h2 = c .before in
-    let p4 = h2 .before in
-    let w4 = p4 .before in
-    let p3 = w4 .before in
-    let w3 = p3 .before in
-    let h1 = w3 .before in
-    let p2 = h1 .before in
-    let w2 = p2 .before in
-    let p1 = w2 .before in
+    let p3 = c .before in
+    let w2 = p3 .before in
+    let p2 = w2 .before in
+    let p1 = p2 .before in
     let w1 = p1 .before in
-    let d = w1 .before in
-    let s = d .before in
-    let m = s .before in
-    row-law (m .before .args .c) (m .mirror .ensures) (s .sums .ensures) (d .diffs .ensures)
-    (w1 .spread .ensures) (p1 .pairs .ensures) (w2 .spread2 .ensures) (p2 .pairs2 .ensures) (h1 .half .ensures)
-    (w3 .spread3 .ensures) (p3 .pairs3 .ensures) (w4 .spread4 .ensures) (p4 .pairs4 .ensures) (h2 .half2 .ensures) (c .join .ensures)
+    let p0 = w1 .before in
+    let s = p0 .before .before .before in
+    row-law (s .before .args .c) (s .sides .ensures) (p0 .pairs .ensures) (w1 .swapped .ensures) (p1 .pairs2 .ensures)
+    (p2 .pairs3 .ensures) (w2 .swapped2 .ensures) (p3 .pairs4 .ensures) (c .ends .ensures)
 
 pub row-pass-spec : {M : Type 1} → statement M
-row-pass-spec =
-    tie.close
-    (tie.spec
-    (λ c κs. tt)
-    (λ c κs. tt)
-    (λ c κs. tt)
-    (λ c κs. search needs)
-    (λ c κs. tt)
-    (λ c κs. search needs)
-    (λ c κs. tt)
-    (λ c κs. tt)
-    (λ c κs. search needs)
-    (λ c κs. tt)
-    (λ c κs. search needs)
-    (λ c κs. tt)
-    (λ c κs. tt)
-    (λ c κs. tt)
-    returns)
+row-pass-spec = tie.close (tie.spec (λ c κs. tt) (λ c κs. tt) (λ c κs. tt) (λ c κs. tt) (λ c κs. tt) (λ c κs. tt) (λ c κs. tt) (λ c κs. tt) returns)

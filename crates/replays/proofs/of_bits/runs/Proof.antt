@@ -1,7 +1,7 @@
 use Prim.Native.Nat.{_-_, _≤_}
 use borrow.Author.Needs.{needs}
-use Rattle.replays.proofs.bits.runs.Statement.{statement}
-use Rattle.replays.proofs.bits.runs.Tie as tie
+use Rattle.replays.proofs.of_bits.runs.Statement.{statement}
+use Rattle.replays.proofs.of_bits.runs.Tie as tie
 
 abbrev Inv-loop : tie.InvT-loop
 Inv-loop b r₀ k₀ r k = k ≤ 8
