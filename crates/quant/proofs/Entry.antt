@@ -1,11 +1,8 @@
 -- What the two high multiplies make of a coefficient with the numbers of its place.
-use mathlib.Core.Path.{_≡_, refl, ap, subst}
-use mathlib.Core.Bool.{Bool, true, false}
+use mathlib.Core.Path.{_≡_, ap}
 use mathlib.Core.List.{List}
 use Prim.Native.Nat.{ℕ, _+_, _<_}
 use native.Mathlib.Omega.{arith}
-use lib.Dec.{ltb}
-use borrow.Author.Tests.{ltb-true, ltb-false}
 use lib.IntN.{ℤ, natAbs}
 use lib.ListN.{getD}
 use mir.Syntax.{w16}
@@ -15,22 +12,8 @@ use Rattle.tables.specs.Reciprocal.{twoHigh, rounded}
 use Rattle.tables.specs.Entries.{encodeOf}
 use Rattle.tables.proofs.Rounding.{entry-rounds, correction-small, rounded-bound}
 use Rattle.tables.proofs.Places.{encode-correction, encode-reciprocal, encode-scale}
-use Rattle.quant.specs.Quantise.{coefficient, withSign, roundedDivision}
+use Rattle.quant.specs.Quantise.{withSign, roundedDivision}
 use Rattle.quant.proofs.one.Signs.{magnitude-small}
-
--- what holds below i, and at i
-pub one-more : {P : ℕ → Type 0} (i : ℕ) → P i → ((j : ℕ) → j < i → P j) → (j : ℕ) → j < i + 1 → P j
-one-more {P} i x f j h = go (ltb j i) refl
-  where
-    go : (t : Bool) → ltb j i ≡ t → P j
-    go true e = f j (ltb-true j i e)
-    go false e =
-        let s : i ≡ j = omega (arith, ltb-false j i e) in
-        subst P s x
-
--- what the code makes of the coefficient at place i with the numbers k
-abbrev pub multipliedAt : List ℕ → List ℤ → ℕ → ℤ
-multipliedAt k l i = withSign (coefficient l i) (twoHigh (getD k i 0) (getD k (64 + i) 0) (getD k (128 + i) 0) (natAbs (coefficient l i)))
 
 module _ (p i : ℕ) (k : List ℕ) (x : ℤ) (hp : p < 25) (hi : i < 64) (e : k ≡ encodeOf p) (h : SFits w16 x) where
   multiplied : twoHigh (getD k i 0) (getD k (64 + i) 0) (getD k (128 + i) 0) (natAbs x) ≡ rounded (natAbs x) (divisor p i)
