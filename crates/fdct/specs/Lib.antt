@@ -1,3 +1,4 @@
 pub mod Forward
 pub mod column
 pub mod level_shift
+pub mod load
