@@ -177,6 +177,7 @@ static void frame(void) {
     static const uint8_t whole[] = {3, 4, 1, 36, 2,                            /* header, shift 4 */
                                     1, 0, 0, 0, 0xF0, 3, 0, 0, 0, 1, 2, 3,     /* DC */
                                     2, 0, 0, 0, 0x80, 0x80, 1, 0, 0, 0, 9};    /* AC */
+    static uint8_t long_dc[513], long_out[600];
     uint8_t out[ROOM], before[ROOM];
     size_t next, at = 0, header_len, offset, len;
     uint32_t turn, complete = 9, interlaced, quality, shift, there, views[VMX_VIEWS];
@@ -194,11 +195,18 @@ static void frame(void) {
     check(memcmp(before, out, ROOM) == 0 && at == 10 && next == 1 && turn == 0, "nothing changed on refusal");
 
     check(vmx_frame_put(WIDTH, HEIGHT, 0, 1, dc1, sizeof dc1, out, ROOM, &turn, &next, &at) == VMX_OK, "DC 1");
+    check(vmx_frame_complete(WIDTH, HEIGHT, turn, next, &complete) == VMX_OK && complete == 1, "complete without AC");
     check(vmx_frame_put(WIDTH, HEIGHT, 1, 0, ac0, sizeof ac0, out, ROOM, &turn, &next, &at) == VMX_OK, "AC 0");
     check(vmx_frame_put(WIDTH, HEIGHT, 1, 1, ac1, sizeof ac1, out, ROOM, &turn, &next, &at) == VMX_OK, "AC 1");
     check(at == sizeof whole && memcmp(out, whole, sizeof whole) == 0, "the frame's bytes");
     check(vmx_frame_complete(WIDTH, HEIGHT, turn, next, &complete) == VMX_OK && complete == 1, "complete");
     check(vmx_frame_complete(15, HEIGHT, turn, next, &complete) == VMX_NO_SIZE && complete == 1, "kept on refusal");
+    at = next = turn = 0;
+    check(vmx_frame_put(WIDTH, HEIGHT, 0, 0, long_dc, sizeof long_dc, long_out, sizeof long_out, &turn, &next, &at) == VMX_NO_LIMIT,
+          "513 bytes of DC at width 16");
+    check(vmx_frame_put(WIDTH, HEIGHT, 0, 0, long_dc, 512, long_out, sizeof long_out, &turn, &next, &at) == VMX_OK && at == 516,
+          "512 bytes");
+    at = sizeof whole;
     check(out[at] == 0xAA, "no byte after the frame");
 
     check(vmx_parse(WIDTH, HEIGHT, out, at, &interlaced, &quality, &shift, &header_len, &there) == VMX_OK, "parse");

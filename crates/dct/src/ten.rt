@@ -1,4 +1,4 @@
-// Dequantising and the inverse transform of an 10-bit block (idct16 of dct.rs).
+// Dequantising and the inverse transform of a 10-bit block (idct16 of dct.rs).
 ghost use mathlib.Core.Path.{_≡_};
 ghost use mathlib.Core.Bool.{true};
 ghost use lib.IntN.{pos};

@@ -34,11 +34,14 @@ ofStream l =
     (record { acTurn = eqb (at 2) 1; next = at 3; at = at 4 })
     (eqb (at 5) 1) (at 6) (at 7) (at 8))
 
--- a stream needs room for its length word too; a width of 16 allows 512 bytes of DC and 896 of AC, a height of 48 has three slices
+-- a stream needs room for its length word too; a width of 16 allows 512 bytes of DC and 896 of AC, one of 18 has a
+-- stride of 24, a height of 48 has three slices
 stream-limits : holds ofStream
     (limits (16 ∷ 48 ∷ 0 ∷ 1 ∷ 10 ∷ 0 ∷ 1 ∷ 512 ∷ 526 ∷ []) (no 6 8 525 ∷ no 6 4 11 ∷ no 9 0 15 ∷ no 9 1 15 ∷ no 14 5 1 ∷ [])
     ∷ limits (16 ∷ 48 ∷ 0 ∷ 1 ∷ 10 ∷ 0 ∷ 1 ∷ 512 ∷ 999 ∷ []) (no 6 8 525 ∷ no 9 0 17 ∷ no 9 1 4321 ∷ no 13 7 513 ∷ no 14 1 16 ∷ no 14 2 1 ∷ no 14 3 0 ∷ no 14 6 2 ∷ [])
     ∷ limits (16 ∷ 48 ∷ 1 ∷ 2 ∷ 10 ∷ 1 ∷ 2 ∷ 896 ∷ 999 ∷ []) (no 6 8 909 ∷ no 9 0 7682 ∷ no 9 1 15 ∷ no 13 7 897 ∷ no 14 1 32 ∷ no 14 2 0 ∷ no 14 3 3 ∷ no 14 6 1 ∷ [])
+    ∷ limits (18 ∷ 48 ∷ 0 ∷ 1 ∷ 10 ∷ 0 ∷ 1 ∷ 768 ∷ 999 ∷ []) (no 13 7 769 ∷ [])
+    ∷ limits (18 ∷ 48 ∷ 1 ∷ 2 ∷ 10 ∷ 1 ∷ 2 ∷ 1344 ∷ 1358 ∷ []) (no 6 8 1357 ∷ [])
     ∷ [])
     ≡ true
 unfolding ofStream firstNo streamQuestions

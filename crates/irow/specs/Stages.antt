@@ -1,4 +1,4 @@
--- The stages by which the code makes the row pass: loops over whole blocks, so that they run on vectors.
+-- The stages by which the code makes the row pass: rows spread, products of pairs over the block, sums by rows.
 use mathlib.Core.Bool.{cond}
 use mathlib.Core.List.{List, [], _∷_}
 use Prim.Native.Nat.{ℕ, _+_, _-_, _*_, _/_, _%_}

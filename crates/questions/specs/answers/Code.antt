@@ -8,7 +8,7 @@ use Rattle.calls.specs.Arguments.{buffers}
 use Rattle.calls.specs.Told.{Told, refusal, acceptance, told}
 use Rattle.calls.specs.Views.{positionsBy}
 
--- document 01's number and positions of an answer, with both buffers as they are now
+-- document 01's number and positions of an answer, with both buffers at exit
 abbrev pub codeSays : CodeAnswer → List ℕ → List ℕ → Told Coded
 codeSays (Refused n at) dcs acs = refusal (record { number = n; at = positionsBy at; buffers = buffers dcs acs })
 codeSays (Accepted at) dcs acs = acceptance (record { number = 0; at = positionsBy at; buffers = buffers dcs acs })

@@ -7,7 +7,7 @@ use Rattle.questions.specs.declared.answers.ReadAnswer.the-variants.{Ref
 use Rattle.calls.specs.Told.{Told, refusal, acceptance, told}
 use Rattle.calls.specs.Views.{positionsBy}
 
--- document 01's number and positions of an answer, with the rows of every lent plane as they are now
+-- document 01's number and positions of an answer, with the rows of every lent plane at exit
 abbrev pub readSays : ReadAnswer → List (List ℕ) → Told Decoded
 readSays (Refused n at) rows = refusal (record { number = n; at = positionsBy at; rows = rows })
 readSays (Accepted at) rows = acceptance (record { number = 0; at = positionsBy at; rows = rows })
