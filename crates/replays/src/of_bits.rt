@@ -86,7 +86,10 @@ fn codes(b: &Record) -> [u32; 8] {
 // Whether a buffer holds the record's stream from the byte 3 on, up to `end`, and the fill everywhere else.
 fn same_stream(b: &Record, end: usize, out: &[u8; 64]) -> bool {
     let n = wide(b[1]);
-    end == 3 + n && replay::holds_stored(out, b[3], 3, end, part(b, 22, n))
+    if end < 3 {
+        return false;
+    }
+    end - 3 == n && replay::holds_stored(out, b[3], 3, end, part(b, 22, n))
 }
 
 // The codes by the core, which takes the accumulator by value.
