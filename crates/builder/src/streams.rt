@@ -18,10 +18,10 @@ ghost use lib.ListN.{length};
 ghost use Rattle.ask.specs.Ask.{firstNo};
 ghost use Rattle.ask.specs.Limits.{widthMax};
 ghost use Rattle.bits.specs.Lay.{lay};
-ghost use Rattle.layout.specs.Geometry.{sizeOk, sizeQuestion};
+ghost use Rattle.layout.specs.Geometry.{sizeOk, sizeQuestion, limitOf};
 ghost use Rattle.layout.specs.Views.{isAc};
 ghost use Rattle.builder.specs.Views.{builderSays};
-ghost use Rattle.builder.specs.streams.Put.{lengthWord, same, inTurn, limitOf, limitQuestion, turnQuestion, streamQuestions};
+ghost use Rattle.builder.specs.streams.Put.{lengthWord, same, inTurn, limitQuestion, turnQuestion, streamQuestions};
 ghost use Rattle.builder.specs.streams.Put.{streamOf, afterStream, isComplete, completeOf};
 ghost use Rattle.builder.specs.streams.Views.{StreamCall, completeSays};
 

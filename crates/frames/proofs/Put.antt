@@ -13,9 +13,9 @@ use Rattle.ask.specs.Limits.{shiftMax}
 use Rattle.ask.specs.Ask.{Answer, refused, accepted, andThen, firstNo}
 use Rattle.bits.specs.Lay.{lay}
 use Rattle.bits.proofs.LayLaw.{lay-none, lay-lay, lay-length}
-use Rattle.layout.specs.Geometry.{sizeOk, sliceCount, maxDcLen, maxAcLen}
+use Rattle.layout.specs.Geometry.{sizeOk, sliceCount, maxDcLen, maxAcLen, limitOf}
 use Rattle.builder.specs.Build.{Build, Built, headerSize, headerBytes, countByte, startQuestions, headerOf, started}
-use Rattle.builder.specs.streams.Put.{lengthWord, streamBytes, streamQuestions, streamOf, afterStream, inTurn, limitOf, same, isLastSlice, allStreams, writeOf}
+use Rattle.builder.specs.streams.Put.{lengthWord, streamBytes, streamQuestions, streamOf, afterStream, inTurn, same, isLastSlice, allStreams, writeOf}
 use Rattle.builder.proofs.Laws.{all-yes, header-yes}
 use Rattle.builder.proofs.streams.Laws.{stream-yes, stream-done}
 use Rattle.frames.specs.Whole.{putAll, buildOf, Within}

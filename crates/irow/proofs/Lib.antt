@@ -1,4 +1,3 @@
 pub mod Pass
 pub mod Place
-pub mod Turn
 pub mod sums

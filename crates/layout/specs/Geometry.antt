@@ -55,6 +55,11 @@ maxDcLen w = lumaStride w * dcPerSample
 abbrev pub maxAcLen : ℕ → ℕ
 maxAcLen w = lumaStride w * acPerSample
 
+-- "Limits per stream": those of a width, by the stream's kind (true: AC)
+abbrev pub limitOf : Bool → ℕ → ℕ
+limitOf false w = maxDcLen w
+limitOf true w = maxAcLen w
+
 -- "only heights 480, 576 and 1080 keep it"
 abbrev pub interlaceCapable : ℕ → Bool
 interlaceCapable h = eqb h 480 || (eqb h 576 || eqb h 1080)

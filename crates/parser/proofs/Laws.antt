@@ -10,13 +10,13 @@ use lib.ListN.{length}
 use borrow.Author.Tests.{lt-ltb, le-ltb, ltb-true, ltb-false}
 use Rattle.ask.specs.Ask.{Answer, refused, accepted, ask, firstNo, asked, andThen, byNumber}
 use Rattle.ask.specs.Numbers.{noTurn}
-use Rattle.layout.specs.Geometry.{sliceCount, maxDcLen, maxAcLen}
+use Rattle.layout.specs.Geometry.{sliceCount, maxDcLen, maxAcLen, limitOf}
 use Rattle.layout.specs.Views.{isAc}
 use Rattle.parser.proofs.streams.Laws.{one-inside, streams-inside, one-end}
 use Rattle.parser.specs.streams.Streams.{lengthAt, oneStream, streams}
 use Rattle.parser.proofs.head.Laws.{begins-inside}
 use Rattle.parser.specs.head.Header.{formatAt, headerLength, headerQuestions, FrameRead, frameRead}
-use Rattle.parser.specs.Frame.{dcStreams, acThereAt, parseOf, View, streamPart, kindStart, kindLimit, wanted, nthStream, kindView, viewOf}
+use Rattle.parser.specs.Frame.{dcStreams, acThereAt, parseOf, View, streamPart, kindStart, wanted, nthStream, kindView, viewOf}
 use Rattle.parser.specs.Views.{viewSays}
 use Rattle.layout.specs.declared.Kind.{Kind}
 use Rattle.parser.specs.declared.ViewAnswer.{ViewAnswer}
@@ -217,7 +217,7 @@ view-inside w h f ac slice {v} e =
     rw e at
     (after-held f (parseOf w h f) (λ r. byNumber (firstNo (ask (ltb slice (sliceCount h) && wanted ac r) noTurn ∷ [])) (kindView ac w h f slice))
     (λ r. number-held f (firstNo (ask (ltb slice (sliceCount h) && wanted ac r) noTurn ∷ [])) (kindView ac w h f slice)
-    (after-held f (kindStart ac w h f) (λ p. nthStream slice (kindLimit ac w) f p) (λ p. nth-held f slice (kindLimit ac w) p))))
+    (after-held f (kindStart ac w h f) (λ p. nthStream slice (limitOf ac w) f p) (λ p. nth-held f slice (limitOf ac w) p))))
 
 pub part-size : (p n : ℕ) → p + n - p ≡ n
 part-size p n = omega arith

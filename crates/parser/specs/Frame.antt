@@ -6,7 +6,7 @@ use lib.Dec.{ltb}
 use lib.ListN.{length, take, drop}
 use Rattle.ask.specs.Ask.{Answer, refused, accepted, ask, asked, andThen}
 use Rattle.ask.specs.Numbers.{noTurn}
-use Rattle.layout.specs.Geometry.{sliceCount, maxDcLen, maxAcLen}
+use Rattle.layout.specs.Geometry.{sliceCount, maxDcLen, maxAcLen, limitOf}
 use Rattle.parser.specs.streams.Streams.{lengthAt, oneStream, streams}
 use Rattle.parser.specs.head.Header.{headerLength, headerQuestions, FrameRead, frameRead}
 
@@ -41,10 +41,6 @@ abbrev pub kindStart : Bool → ℕ → ℕ → List ℕ → Answer ℕ
 kindStart false w h f = accepted (headerLength f)
 kindStart true w h f = dcStreams w h f
 
-abbrev pub kindLimit : Bool → ℕ → ℕ
-kindLimit false w = maxDcLen w
-kindLimit true w = maxAcLen w
-
 -- question 14, put last: "Slice number below the count .., AC there when wanted"
 abbrev pub wanted : Bool → FrameRead → Bool
 wanted false r = true
@@ -55,7 +51,7 @@ unfoldable pub nthStream : ℕ → ℕ → List ℕ → ℕ → Answer View
 nthStream n limit f p = andThen (streams n limit f p) (λ q. andThen (oneStream limit f q) (λ e. accepted (streamPart f q)))
 
 abbrev pub kindView : Bool → ℕ → ℕ → List ℕ → ℕ → Answer View
-kindView ac w h f slice = andThen (kindStart ac w h f) (λ p. nthStream slice (kindLimit ac w) f p)
+kindView ac w h f slice = andThen (kindStart ac w h f) (λ p. nthStream slice (limitOf ac w) f p)
 
 unfoldable pub viewOf : ℕ → ℕ → List ℕ → Bool → ℕ → Answer View
 viewOf w h f ac slice =

@@ -11,13 +11,13 @@ use Rattle.ask.specs.Ask.{Answer, refused, accepted, Question, firstNo, asked}
 use Rattle.ask.specs.Numbers.{noSize}
 use Rattle.bits.specs.Lay.{lay}
 use Rattle.bits.proofs.LayLaw.{lay-lay}
-use Rattle.layout.specs.Geometry.{sizeOk, sizeQuestion, sliceCount, maxDcLen, maxAcLen}
+use Rattle.layout.specs.Geometry.{sizeOk, sizeQuestion, sliceCount, maxDcLen, maxAcLen, limitOf}
 use Rattle.layout.specs.Views.{isAc}
 use Rattle.layout.specs.declared.Kind.{Kind}
 use Rattle.layout.specs.declared.Kind.the-variants as kind
 use Rattle.builder.specs.Build.{Build, Built}
 use Rattle.builder.proofs.Laws.{built}
-use Rattle.builder.specs.streams.Put.{lengthWord, streamQuestions, streamOf, streamBytes, inTurn, limitOf, afterStream, nextTurn, same, isComplete, completeOf}
+use Rattle.builder.specs.streams.Put.{lengthWord, streamQuestions, streamOf, streamBytes, inTurn, afterStream, nextTurn, same, isComplete, completeOf}
 
 -- ---- room, by difference
 pub by-difference4 : (len at n : ℕ) → at + 4 ≤ len → leb n (len - at - 4) ≡ leb (at + (4 + n)) len

@@ -7,7 +7,7 @@ use lib.ListN.{length}
 use Rattle.bits.specs.Lay.{lay}
 use Rattle.ask.specs.Ask.{Answer, accepted, Question, ask, asked}
 use Rattle.ask.specs.Numbers.{noLimit, noTurn}
-use Rattle.layout.specs.Geometry.{sizeQuestion, sliceCount, maxDcLen, maxAcLen}
+use Rattle.layout.specs.Geometry.{sizeQuestion, sliceCount, limitOf}
 use Rattle.builder.specs.Build.{Build, Built, roomToWrite, headerBytes, countByte}
 
 -- a stream after its 32-bit length, low byte first
@@ -21,11 +21,6 @@ abbrev pub same : Bool → Bool → Bool
 same true b = b
 same false true = false
 same false false = true
-
--- "Limits per stream": those of a width, by the stream's kind
-abbrev pub limitOf : Bool → ℕ → ℕ
-limitOf false w = maxDcLen w
-limitOf true w = maxAcLen w
 
 -- question 13: "Stream within its limit?"
 abbrev pub limitQuestion : ℕ → Bool → ℕ → Question

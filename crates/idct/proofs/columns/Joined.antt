@@ -10,8 +10,7 @@ use Rattle.scalar.specs.Tab.{lane}
 use Rattle.scalar.proofs.InRows.{row-of, col-of}
 use Rattle.lanes.specs.Lanes.{mm-adds-epi16, mm-subs-epi16, mm-srai-epi16}
 use Rattle.lanes.specs.rows.Block.{rowOf, putOf, blockOf}
-use Rattle.lanes.proofs.rows.Loops.{row-at, RowsPut, put-done, by-place}
-use Rattle.irow.proofs.Turn.{turn}
+use Rattle.lanes.proofs.rows.Loops.{row-at, RowsPut, put-turn, put-done, by-place}
 use Rattle.idct.specs.declared.Four.{Four}
 use Rattle.idct.specs.column.Steps.{Stage, Column, inverseOddOf, inverseEvenOf, inverseSumOf, inverseDiffOf, inverseJoinOf, inverseColumnOf}
 use Rattle.idct.specs.column.Rows.{inverseOddRows, inverseEvenRows, sumRow, diffRow, inverseJoinRows}
@@ -100,4 +99,4 @@ module _ (g : ℕ → List ℤ) where
       → b5 ≡ putOf b4 4 x4 → x4 ≡ g 4 → b6 ≡ putOf b5 5 x5 → x5 ≡ g 5 → b7 ≡ putOf b6 6 x6 → x6 ≡ g 6 → b8 ≡ putOf b7 7 x7 → x7 ≡ g 7 → b8 ≡ blockOf g
   eight-rows {b0} {b1} {b2} {b3} {b4} {b5} {b6} {b7} {b8} e p0 q0 p1 q1 p2 q2 p3 q3 p4 q4 p5 q5 p6 q6 p7 q7 =
       put-done g b8 8 (omega arith)
-      (turn g b7 7 (omega arith) (turn g b6 6 (omega arith) (turn g b5 5 (omega arith) (turn g b4 4 (omega arith) (turn g b3 3 (omega arith) (turn g b2 2 (omega arith) (turn g b1 1 (omega arith) (turn g b0 0 (omega arith) (begin e) p0 q0) p1 q1) p2 q2) p3 q3) p4 q4) p5 q5) p6 q6) p7 q7)
+      (put-turn g b7 7 (omega arith) (put-turn g b6 6 (omega arith) (put-turn g b5 5 (omega arith) (put-turn g b4 4 (omega arith) (put-turn g b3 3 (omega arith) (put-turn g b2 2 (omega arith) (put-turn g b1 1 (omega arith) (put-turn g b0 0 (omega arith) (begin e) p0 q0) p1 q1) p2 q2) p3 q3) p4 q4) p5 q5) p6 q6) p7 q7)

@@ -6,8 +6,7 @@ use native.Mathlib.Omega.{arith}
 use lib.IntN.{ℤ}
 use Rattle.shuffles.specs.Shuffles.{mm-shufflehi-epi16}
 use Rattle.lanes.specs.rows.Block.{rowOf}
-use Rattle.lanes.proofs.rows.Loops.{RowsPut, put-done}
-use Rattle.irow.proofs.Turn.{turn}
+use Rattle.lanes.proofs.rows.Loops.{RowsPut, put-turn, put-done}
 use Rattle.idct.proofs.columns.Mirror.{mirror-law}
 use Rattle.idct.proofs.mirror.Statement.{statement}
 use Rattle.idct.proofs.mirror.Tie as tie
@@ -27,7 +26,7 @@ loop-again c =
     let o = y .before in
     let n = o .before .before in
     let l = n .before in
-    turn (at (l .before .args .t1)) (l .loop .x) (l .loop .r) (n .loop-test .taken) (l .loop .inv) (c .put .ensures)
+    put-turn (at (l .before .args .t1)) (l .loop .x) (l .loop .r) (n .loop-test .taken) (l .loop .inv) (c .put .ensures)
     (y .shufflehi .ensures ∙ ap (λ (x : List ℤ). mm-shufflehi-epi16 x 27) (o .row .ensures))
 
 returns : tie.Need-returns Inv-loop μ-loop

@@ -6,9 +6,8 @@ use native.Mathlib.Omega.{arith}
 use lib.IntN.{ℤ}
 use Rattle.shuffles.specs.Shuffles.{mm-shuffle-epi32-16}
 use Rattle.lanes.specs.rows.Block.{rowOf}
-use Rattle.lanes.proofs.rows.Loops.{RowsPut, put-done}
+use Rattle.lanes.proofs.rows.Loops.{RowsPut, put-turn, put-done}
 use Rattle.irow.specs.pairs.Pairs.{spreadBy}
-use Rattle.irow.proofs.Turn.{turn}
 use Rattle.irow.proofs.pairs.spread.Statement.{statement}
 use Rattle.irow.proofs.pairs.spread.Tie as tie
 
@@ -28,7 +27,7 @@ loop-again c =
     let n = o .before in
     let l = n .before in
     let s = l .before .args in
-    turn (at (s .a .now) (s .imm)) (l .loop .x) (l .loop .r) (n .loop-test .taken) (l .loop .inv) (c .put .ensures)
+    put-turn (at (s .a .now) (s .imm)) (l .loop .x) (l .loop .r) (n .loop-test .taken) (l .loop .inv) (c .put .ensures)
     (y .shuffle32-16 .ensures ∙ ap (λ (x : List ℤ). mm-shuffle-epi32-16 x (s .imm)) (o .row .ensures))
 
 returns : tie.Need-returns Inv-loop μ-loop

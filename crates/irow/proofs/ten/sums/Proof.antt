@@ -3,8 +3,7 @@ use mathlib.Core.Path.{refl, _∙_}
 use Prim.Native.Nat.{_-_}
 use native.Mathlib.Omega.{arith}
 use lib.IntN.{pos}
-use Rattle.lanes.proofs.rows.Loops.{RowsPut, put-done}
-use Rattle.irow.proofs.Turn.{turn}
+use Rattle.lanes.proofs.rows.Loops.{RowsPut, put-turn, put-done}
 use Rattle.irow.proofs.sums.Rows.{rowAt, row-of-calls, sums-law}
 use Rattle.irow.proofs.ten.sums.Statement.{statement}
 use Rattle.irow.proofs.ten.sums.Tie as tie
@@ -25,7 +24,7 @@ loop-again c =
     let n = x0 .before .before in
     let l = n .before in
     let s = l .before .args in
-    turn (rowAt (pos 2048) 12 (s .t1) (s .t2) (s .t3) (s .t4)) (l .loop .w) (l .loop .r) (n .loop-test .taken) (l .loop .inv) (c .put .ensures)
+    put-turn (rowAt (pos 2048) 12 (s .t1) (s .t2) (s .t3) (s .t4)) (l .loop .w) (l .loop .r) (n .loop-test .taken) (l .loop .inv) (c .put .ensures)
     (row-of-calls (pos 2048) 12 (s .t1) (s .t2) (s .t3) (s .t4) (l .loop .r) (x0 .wide .ensures) (x1 .wide2 .ensures) (x2 .wide3 .ensures) (x3 .wide4 .ensures) (y .row-sums .ensures))
 
 returns : tie.Need-returns Inv-loop μ-loop
