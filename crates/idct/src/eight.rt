@@ -154,7 +154,7 @@ pub fn inverse(b: [i16; 64]) -> [i16; 64]
 }
 
 // The samples, the level added. What is below 0 is made 0 first, and it is one loop over the block: so the compiler clamps sixteen samples by
-// one instruction. By rows it clamps one by one.
+// one instruction. By rows it needs more.
 pub fn samples(v: [i16; 64], level: i16) -> [u8; 64]
     ensures { λ r. ⌜ r ≡ samplesOf false (levelAddedOf level v) ⌝ }
 {
