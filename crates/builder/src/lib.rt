@@ -16,7 +16,7 @@ ghost use Rattle.ask.specs.Ask.{firstNo};
 ghost use Rattle.ask.specs.Limits.{shiftMax};
 ghost use Rattle.bits.specs.Lay.{lay};
 ghost use Rattle.builder.specs.Build.{formatByte, headerBytes, headerSize, startQuestions, headerOf};
-ghost use Rattle.builder.specs.Views.{shiftSays, HeaderCall};
+ghost use Rattle.builder.specs.Views.{shiftSays, builderSays, HeaderCall};
 
 // The DC shift that a frame's header names.
 pub enum Shift {
@@ -28,10 +28,38 @@ pub enum Shift {
 // Whose turn it is, and where the next byte goes.
 pub struct Builder {
     // whether the AC streams have their turn
-    pub ac_turn: bool,
+    ac_turn: bool,
     // the slice number whose stream comes next
-    pub next: usize,
-    pub at: usize,
+    next: usize,
+    at: usize,
+}
+
+impl Builder {
+    // The state out of the numbers that a caller held.
+    pub fn new(ac_turn: bool, next: usize, at: usize) -> Builder
+        ensures { λ r. ⌜ builderSays r ≡ record { acTurn = «ac_turn»; next = next; at = at } ⌝ }
+    {
+        Builder { ac_turn, next, at }
+    }
+
+    // The three numbers, as a caller holds them between calls.
+    pub fn ac_turn(self) -> bool
+        ensures { λ r. ⌜ r ≡ builderSays self .acTurn ⌝ }
+    {
+        self.ac_turn
+    }
+
+    pub fn next(self) -> usize
+        ensures { λ r. ⌜ r ≡ builderSays self .next ⌝ }
+    {
+        self.next
+    }
+
+    pub fn at(self) -> usize
+        ensures { λ r. ⌜ r ≡ builderSays self .at ⌝ }
+    {
+        self.at
+    }
 }
 
 pub enum HeaderAnswer {

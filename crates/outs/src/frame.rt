@@ -153,9 +153,9 @@ pub fn header_out(answer: HeaderAnswer, ac_turn: &mut u32, next: &mut usize, at:
     match answer {
         HeaderAnswer::Refused(x) => x,
         HeaderAnswer::Started(b) => {
-            *ac_turn = flag(b.ac_turn);
-            *next = b.next;
-            *at = b.at;
+            *ac_turn = flag(b.ac_turn());
+            *next = b.next();
+            *at = b.at();
             0
         }
     }
@@ -171,9 +171,9 @@ pub fn stream_out(answer: StreamAnswer, ac_turn: &mut u32, next: &mut usize, at:
     match answer {
         StreamAnswer::Refused(x, _) => x,
         StreamAnswer::Next(s) => {
-            *ac_turn = flag(s.ac_turn);
-            *next = s.next;
-            *at = s.at;
+            *ac_turn = flag(s.ac_turn());
+            *next = s.next();
+            *at = s.at();
             0
         }
     }

@@ -95,8 +95,8 @@ struct Handed {
 }
 
 fn compared(b: &Record, k: usize, number: u32, state: Builder) -> Handed {
-    let ac_turn = state.ac_turn;
-    let next = state.next;
+    let ac_turn = state.ac_turn();
+    let next = state.next();
     Handed {
         same: number_of(b, k) == number && completes(b, k, ac_turn, next),
         state,
@@ -123,7 +123,7 @@ fn streams(b: &Record, bytes: &[u8], started: Builder, out: &mut [u8]) -> bool {
         s = t.state;
         k += 1;
     }
-    s.at == position(b, 24)
+    s.at() == position(b, 24)
 }
 
 // The call for the header.

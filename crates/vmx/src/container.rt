@@ -233,11 +233,7 @@ pub extern "C" fn vmx_frame_put(
     let turn = 0 < *ac_turn;
     let first = *next;
     let start = *at;
-    let b = Builder {
-        ac_turn: turn,
-        next: first,
-        at: start,
-    };
+    let b = Builder::new(turn, first, start);
     let r = builder::streams::put_stream(width, height, b, kind, slice, stream, out);
     outs::frame::stream_out(r, ac_turn, next, at)
 }

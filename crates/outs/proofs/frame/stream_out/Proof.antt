@@ -15,10 +15,23 @@ returns c was out out' a h =
 
 returns-2 : tie.Need-returns-2
 returns-2 c was out out' a h =
-    let k = c .before .before in
+    let n = c .before in
+    let f = n .before in
+    let t = f .before in
+    let k = t .before .before in
     let g = k .answer2 .given in
     let e : stream.Next (g .0 .0) ≡ k .before .before .args .answer = sym (g .1) in
-    rw (stream-next was out e h, c .flag .ensures)
+    rw (stream-next was out e h, f .flag .ensures, t .ac-turn .ensures, n .next .ensures, c .at .ensures)
 
 pub stream-out-spec : {M : Type 1} → statement M
-stream-out-spec = tie.close (tie.spec (λ c. search needs) (λ c. search needs) (λ c κs. search needs) returns returns-2)
+stream-out-spec =
+    tie.close
+    (tie.spec
+    (λ c. search needs)
+    (λ c. search needs)
+    (λ c κs. search needs)
+    (λ c κs. search needs)
+    (λ c κs. search needs)
+    (λ c κs. search needs)
+    returns
+    returns-2)
