@@ -123,9 +123,10 @@ fn stream_number(
 ) -> u32
     ensures { λ r. ⌜ r ≡ firstNo (streamQuestions width height (builderSays b) (isAc kind) slice n len) ⌝ }
 {
-    let room = fits_stream(len, b.at, n);
-    let from_size = from_size(b, width, height, kind, slice, n);
-    ask::or_else(room, NO_ROOM, from_size)
+    if fits_stream(len, b.at, n) {
+        return from_size(b, width, height, kind, slice, n);
+    }
+    NO_ROOM
 }
 
 // Stores a 32-bit length, low byte first.

@@ -1,17 +1,17 @@
 -- Laws of the builder's streams.
 use mathlib.Core.Path.{_≡_, refl, sym, ap, ap₂, _∙_}
-use mathlib.Core.Bool.{Bool, true, false, _&&_}
-use mathlib.Core.List.{List, [], _∷_, _++_}
+use mathlib.Core.Bool.{Bool, true, false}
+use mathlib.Core.List.{List}
 use Prim.Native.Nat.{ℕ, zero, suc, _+_, _-_, _≤_, _<_}
 use native.Mathlib.Omega.{arith}
 use lib.Dec.{leb, ltb, eqb}
 use lib.ListN.{length}
 use borrow.Author.Tests.{le-leb, lt-leb, leb-true, leb-false, ltb-true, eqb-true, ne-eqb}
-use Rattle.ask.specs.Ask.{Answer, refused, accepted, Question, firstNo, asked}
+use Rattle.ask.specs.Ask.{Answer, refused, accepted, firstNo, asked}
 use Rattle.ask.specs.Numbers.{noSize}
 use Rattle.bits.specs.Lay.{lay}
 use Rattle.bits.proofs.LayLaw.{lay-lay}
-use Rattle.layout.specs.Geometry.{sizeOk, sizeQuestion, sliceCount, maxDcLen, maxAcLen, limitOf}
+use Rattle.layout.specs.Geometry.{sizeOk, sliceCount, maxDcLen, maxAcLen, limitOf}
 use Rattle.layout.specs.Views.{isAc}
 use Rattle.layout.specs.declared.Kind.{Kind}
 use Rattle.layout.specs.declared.Kind.the-variants as kind
@@ -33,15 +33,6 @@ dc-limit w e f = rw e f
 
 pub ac-limit : (w : ℕ) {k : Kind} {n : ℕ} → k ≡ kind.Ac → n ≡ maxAcLen w → n ≡ limitOf (isAc k) w
 ac-limit w e f = rw e f
-
--- ---- question 9, and those behind it
-pub size-yes : (w h : ℕ) (qs : List Question) {n : ℕ} → sizeOk w h ≡ true → n ≡ firstNo qs → n ≡ firstNo (sizeQuestion w h ∷ qs)
-unfolding firstNo
-size-yes w h qs e f = rw e f
-
-pub size-no : (w h : ℕ) (qs : List Question) → sizeOk w h ≡ false → noSize ≡ firstNo (sizeQuestion w h ∷ qs)
-unfolding firstNo
-size-no w h qs e = rw e
 
 -- ---- what the questions leave
 pub stream-yes : (w h : ℕ) (b : Build) (ac : Bool) (slice n len : ℕ) → leb (b .at + (4 + n)) len ≡ true → sizeOk w h ≡ true → n ≤ limitOf ac w → inTurn (sliceCount h) ac slice b ≡ true
