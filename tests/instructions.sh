@@ -1,8 +1,8 @@
 #!/usr/bin/env bash
 # Instructions that a plane takes (stride 1,920, preset 8), or a frame of 136 streams, ours against the Rust's SSE2 path,
 # counted by callgrind: repeatable whatever the machine is doing, so that a change that loses vector code is seen. The
-# margins are in hundredths of the Rust's. (A frame built: where the processor has it, the Rust's memcpy of a long stream is
-# one rep movsb, which is counted by the byte: so only a copy by single bytes, of several instructions each, is seen.)
+# margins are in hundredths of the Rust's. (A frame built: where the processor has it, the copy of a long stream is one rep
+# movsb on both sides, which is counted by the byte: so only a copy by single bytes, of several instructions each, is seen.)
 set -euo pipefail
 shopt -s inherit_errexit # a command that fails inside $(..) ends the test
 cd "$(dirname "$0")/.."

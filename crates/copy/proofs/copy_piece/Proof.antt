@@ -13,7 +13,7 @@ returns c =
     let p = q .before .before .before .before in
     let s = p .before .before .before .before in
     let a = s .args in
-    by-way (a .out .now) (a .i) (replicate 1536 0) (a .s .now) (a .j) (a .n) (omega (arith, length-replicate {A = ℕ} 1536 0)) (omega arith) (p .copy .ensures) (q .copy2 .ensures)
+    by-way (a .out .now) (a .i) (replicate 65536 0) (a .s .now) (a .j) (a .n) (omega (arith, length-replicate {A = ℕ} 65536 0)) (omega arith) (p .copy .ensures) (q .copy2 .ensures)
 
 pub copy-piece-spec : {M : Type 1} → statement M
 copy-piece-spec =
