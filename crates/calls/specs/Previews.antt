@@ -1,6 +1,6 @@
 -- Preview, block report and size call: what each answers, and what lent memory holds when it returns. Document 01, 'Plane and slice', 'Preview'.
-use mathlib.Core.Bool.{Bool, true, false, not, cond}
-use mathlib.Core.List.{List, [], _∷_, _++_, map}
+use mathlib.Core.Bool.{Bool, not, cond}
+use mathlib.Core.List.{List, [], _∷_, map}
 use Prim.Native.Nat.{ℕ, zero, suc, _*_}
 use lib.IntN.{ℤ, pos}
 use lib.ListN.{length, take, drop, replicate}
@@ -8,7 +8,7 @@ use Rattle.scalar.specs.Scalar.{addOf, sraOf, modZ}
 use Rattle.bits.specs.Bits.{bitAt, bytesFor}
 use Rattle.bits.specs.Lay.{lay}
 use Rattle.ask.specs.Ask.{Answer, accepted, firstNo, asked}
-use Rattle.calls.specs.Arguments.{eight, Settings, Rows, Plane, planeAt, PerStream}
+use Rattle.calls.specs.Arguments.{eight, Plane, PerStream}
 use Rattle.calls.specs.ReadPlane.{BlockRead, Blocks, badBlocks, blocks, readBlocks, DcStep, DcSteps, badSteps, dcSteps, readSteps, predicted}
 use Rattle.calls.specs.Grid.{columnsOf, blocksOf, level}
 use Rattle.calls.specs.Questions.{previewQuestions, reportQuestions, planeSizeQuestions, sliceSizeQuestions, lengthsAtMost, together}

@@ -1,6 +1,6 @@
 -- The builder's state, the place of shown rows and the table of streams, as numbers. Document 01, 'Frame'.
-use mathlib.Core.Bool.{Bool, true, false}
-use mathlib.Core.List.{List, [], _∷_}
+use mathlib.Core.Bool.{Bool}
+use mathlib.Core.List.{List, []}
 use Prim.Native.Nat.{ℕ, _*_}
 use lib.ListN.{take, drop}
 use Rattle.ask.specs.Ask.{Answer, refused, accepted, asked}
