@@ -23,7 +23,8 @@ pub fn ac_block(
     values: &[u16; 255],
     out: &mut [u8],
 ) -> AcState
-    requires { ⌜ (mask ≡ nonzeroMask (now z)) × (length (now z) ≡ 64) × Small (now z) × (s .run + 64 ≤ 2 ^ 17) × (now runs ≡ runTable) × (now values ≡ valueTable)
+    requires { ⌜ (mask ≡ nonzeroMask (now z)) × (length (now z) ≡ 64) × Small (now z) × (s .run + 64 ≤ 2 ^ 17)
+        × (now runs ≡ runTable) × (now values ≡ valueTable)
         × Room (s .a) (length (placesCodes (s .run) (withDc (pos 0) (now z)))) (now out) ⌝ }
     ensures { λ r. ⌜ Put (s .a) (now (out .entry)) (placesCodes (s .run) (withDc (pos 0) (now (z .entry)))) (r .a) (now (out .exit))
         × (r .run ≡ waitingAfter (s .run) (withDc (pos 0) (now (z .entry)))) ⌝ }
