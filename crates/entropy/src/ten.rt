@@ -31,20 +31,19 @@ pub fn ac_block(
 {
     let mut a = s.a;
     let mut run = s.run + 1;
-    let mut m = mask >> 1;
+    let mut m = mask / 2 * 2;
     let mut at = 1;
     while m != 0 {
-        let t = u64::trailing_zeros(m);
-        let p = at + t as usize;
-        let e = crate::short::pair(run + t, z[p], runs, values);
+        let p = u64::trailing_zeros(m);
+        let e = crate::short::pair(run + (p - at), z[p as usize], runs, values);
         a = bitwriter::put(a, e.bits, e.length, out);
         run = 0;
-        m = (m >> t) >> 1;
+        m = m & (m - 1);
         at = p + 1;
     }
     AcState {
         a,
-        run: run + (64 - at) as u32,
+        run: run + (64 - at),
     }
 }
 

@@ -1,6 +1,6 @@
 -- `entropy::ten::ac_block`: a turn codes the next non-zero place; the mask of the places after it is left.
-use mathlib.Core.Path.{_≡_, ap, _∙_}
-use Prim.Native.Nat.{ℕ, _+_, _-_, _^_, _≤_, _<_}
+use mathlib.Core.Path.{_≡_, refl, ap, _∙_}
+use Prim.Native.Nat.{ℕ, zero, suc, _+_, _-_, _^_, _≤_, _<_}
 use native.Mathlib.Omega.{arith}
 use lib.Count.{trailingZeros}
 use lib.IntN.{ℤ}
@@ -31,6 +31,9 @@ sized c = c .pre .1
 add-run : tie.Need-add-run Inv-loop μ-loop
 add-run c = record { fits = omega (arith, c .before .before .before .pre .3) }
 
+mul-m : tie.Need-mul-m Inv-loop μ-loop
+mul-m c = record { fits = omega (arith, c .before .before .before .fits .mask .fits) }
+
 loop-holds : tie.Need-loop-holds Inv-loop μ-loop
 loop-holds c =
     let s = c .before .before .before in
@@ -40,14 +43,14 @@ loop-holds c =
 turns : (c : tie.In-loop Inv-loop μ-loop) → Turn (c .before .before .before .before .before .args .z .now) (c .before .loop .run) (c .before .loop .m) (c .before .loop .at) (trailingZeros 64 (c .before .loop .m))
 turns c = turn (sized (c .before .before .before .before .before)) (c .before .loop .inv) (c .loop-test .taken)
 
-cast-p : tie.Need-cast-p Inv-loop μ-loop
-cast-p c = record { fits = omega (arith, turns c .inside) }
-
-add-p : tie.Need-add-p Inv-loop μ-loop
-add-p c = record { fits = omega (arith, turns c .inside) }
+sub-pair : tie.Need-sub-pair Inv-loop μ-loop
+sub-pair c = turns c .from
 
 add-pair : tie.Need-add-pair Inv-loop μ-loop
-add-pair c = record { fits = omega (arith, turns c .inside, c .before .loop .inv .few) }
+add-pair c = record { fits = omega (arith, turns c .inside, turns c .from, c .before .loop .inv .few) }
+
+cast-pair : tie.Need-cast-pair Inv-loop μ-loop
+cast-pair c = record { fits = omega (arith, turns c .inside) }
 
 mul-pair : tie.Need-mul-pair Inv-loop μ-loop
 mul-pair c = omega (arith, turns c .inside)
@@ -57,14 +60,14 @@ element-copy-out-pair c = omega (arith, turns c .inside)
 
 -- the value at the place, as it was read
 value-is : (c : tie.After-pair-arg Inv-loop μ-loop) → let l = c .before .before in
-    toZ w16 (ofZ w16 (lane (l .before .before .before .before .args .z .now) (l .loop .at + trailingZeros 64 (l .loop .m)))) ≡ lane (l .before .before .before .before .args .z .now) (l .loop .at + trailingZeros 64 (l .loop .m))
+    toZ w16 (ofZ w16 (lane (l .before .before .before .before .args .z .now) (trailingZeros 64 (l .loop .m)))) ≡ lane (l .before .before .before .before .args .z .now) (trailingZeros 64 (l .loop .m))
 value-is c = toZ-ofZ (sfits-of (c .pair-arg .given))
 
 -- what the pair asks
 record Asks (c : tie.After-pair-arg Inv-loop μ-loop) : Type 0 where
-  run-few : c .before .before .loop .run + trailingZeros 64 (c .before .before .loop .m) < 2 ^ 17
-  some : 0 < codeOf (lane (c .before .before .before .before .before .before .args .z .now) (c .before .before .loop .at + trailingZeros 64 (c .before .before .loop .m)))
-  small : codeOf (lane (c .before .before .before .before .before .before .args .z .now) (c .before .before .loop .at + trailingZeros 64 (c .before .before .loop .m))) < 2 ^ 15
+  run-few : c .before .before .loop .run + (trailingZeros 64 (c .before .before .loop .m) - c .before .before .loop .at) < 2 ^ 17
+  some : 0 < codeOf (lane (c .before .before .before .before .before .before .args .z .now) (trailingZeros 64 (c .before .before .loop .m)))
+  small : codeOf (lane (c .before .before .before .before .before .before .args .z .now) (trailingZeros 64 (c .before .before .loop .m))) < 2 ^ 15
 
 asks : (c : tie.After-pair-arg Inv-loop μ-loop) → Asks c
 asks c =
@@ -72,9 +75,9 @@ asks c =
     let l = c .before .before in
     let s = l .before .before .before .before in
     record {
-      run-few = omega (arith, t .inside, l .loop .inv .few);
-      some = code-some (lane (s .args .z .now) (l .loop .at + trailingZeros 64 (l .loop .m))) (t .some);
-      small = code-small (lane (s .args .z .now) (l .loop .at + trailingZeros 64 (l .loop .m))) (s .pre .2 (l .loop .at + trailingZeros 64 (l .loop .m)));
+      run-few = omega (arith, t .from, t .inside, l .loop .inv .few);
+      some = code-some (lane (s .args .z .now) (trailingZeros 64 (l .loop .m))) (t .some);
+      small = code-small (lane (s .args .z .now) (trailingZeros 64 (l .loop .m))) (s .pre .2 (trailingZeros 64 (l .loop .m)));
     }
 
 pair-requires : tie.Need-pair-requires Inv-loop μ-loop
@@ -85,8 +88,8 @@ pair-requires c κs =
 
 -- the pair that was made
 made : (c : tie.After-pair Inv-loop μ-loop) → let l = c .before .before .before in
-    c .pair .result ≡ pairCode (l .loop .run + trailingZeros 64 (l .loop .m)) (codeOf (lane (l .before .before .before .before .args .z .now) (l .loop .at + trailingZeros 64 (l .loop .m))))
-made c = let l = c .before .before .before in c .pair .ensures ∙ ap (λ (v : ℤ). pairCode (l .loop .run + trailingZeros 64 (l .loop .m)) (codeOf v)) (value-is (c .before))
+    c .pair .result ≡ pairCode (l .loop .run + (trailingZeros 64 (l .loop .m) - l .loop .at)) (codeOf (lane (l .before .before .before .before .args .z .now) (trailingZeros 64 (l .loop .m))))
+made c = let l = c .before .before .before in c .pair .ensures ∙ ap (λ (v : ℤ). pairCode (l .loop .run + (trailingZeros 64 (l .loop .m) - l .loop .at)) (codeOf v)) (value-is (c .before))
 
 put-requires : tie.Need-put-requires Inv-loop μ-loop
 put-requires c κs =
@@ -94,20 +97,21 @@ put-requires c κs =
     let a = asks (k .before) in
     let l = k .before .before .before in
     let s = l .before .before .before .before in
-    pair-asks (l .loop .run + trailingZeros 64 (l .loop .m)) (codeOf (lane (s .args .z .now) (l .loop .at + trailingZeros 64 (l .loop .m)))) (made k) (a .run-few) (a .some) (a .small)
+    pair-asks (l .loop .run + (trailingZeros 64 (l .loop .m) - l .loop .at)) (codeOf (lane (s .args .z .now) (trailingZeros 64 (l .loop .m)))) (made k) (a .run-few) (a .some) (a .small)
     (turn-room (room-tail (s .args .z .now) (s .args .s .run) (s .args .s .a) (s .args .out .now) (sized s) (s .pre .6)) (l .loop .inv) (turns (k .before .before)))
 
-cast-m : tie.Need-cast-m Inv-loop μ-loop
-cast-m c = record { fits = omega (arith, turns (c .before .before .before .before .before .before) .inside) }
+positive : (m : ℕ) → (m ≡ 0 → ⊥) → 1 ≤ m
+positive zero h = absurd (h refl)
+positive (suc m) h = omega arith
 
-shr-m : tie.Need-shr-m Inv-loop μ-loop
-shr-m c = omega (arith, turns (c .before .before .before .before .before .before) .inside)
+sub-m : tie.Need-sub-m Inv-loop μ-loop
+sub-m c = let i = c .before .before .before .before .before .before in positive (i .before .loop .m) (i .loop-test .taken)
 
 add-at : tie.Need-add-at Inv-loop μ-loop
 add-at c = record { fits = omega (arith, turns (c .before .before .before .before .before .before) .inside) }
 
 loop-less : tie.Need-loop-less Inv-loop μ-loop
-loop-less c = omega (arith, turns (c .before .before .before .before .before .before) .inside)
+loop-less c = let t = turns (c .before .before .before .before .before .before) in omega (arith, t .from, t .inside)
 
 loop-again : tie.Need-loop-again Inv-loop μ-loop
 loop-again c =
@@ -116,13 +120,10 @@ loop-again c =
     let l = k .before .before .before in
     let s = l .before .before .before .before in
     gone (l .loop .inv) (turns (k .before .before))
-    (pair-put (l .loop .a) (l .loop .run + trailingZeros 64 (l .loop .m)) (codeOf (lane (s .args .z .now) (l .loop .at + trailingZeros 64 (l .loop .m)))) (made k) (a .run-few) (a .some) (a .small) (c .before .before .put .ensures))
+    (pair-put (l .loop .a) (l .loop .run + (trailingZeros 64 (l .loop .m) - l .loop .at)) (codeOf (lane (s .args .z .now) (trailingZeros 64 (l .loop .m)))) (made k) (a .run-few) (a .some) (a .small) (c .before .before .put .ensures))
 
-sub-t24 : tie.Need-sub-t24 Inv-loop μ-loop
-sub-t24 c = c .before .loop .inv .at-le
-
-cast-t25 : tie.Need-cast-t25 Inv-loop μ-loop
-cast-t25 c = record { fits = omega arith }
+sub-t25 : tie.Need-sub-t25 Inv-loop μ-loop
+sub-t25 c = c .before .loop .inv .at-le
 
 add-t26 : tie.Need-add-t26 Inv-loop μ-loop
 add-t26 c = record { fits = omega (arith, c .before .loop .inv .few) }
@@ -142,21 +143,20 @@ ac-block-spec =
     Inv-loop
     μ-loop
     add-run
+    mul-m
     loop-holds
-    cast-p
-    add-p
+    sub-pair
     add-pair
+    cast-pair
     mul-pair
     element-copy-out-pair
     pair-requires
     put-requires
-    cast-m
-    shr-m
+    sub-m
     add-at
     loop-less
     loop-again
-    sub-t24
-    cast-t25
+    sub-t25
     add-t26
     same-length
     returns)
