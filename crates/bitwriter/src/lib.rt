@@ -10,6 +10,7 @@ ghost use lib.ListN.{length};
 ghost use Rattle.bits.specs.Bits.{bitsOf, bitLength, valueCode, runCode, padToByte};
 ghost use Rattle.bits.specs.Lay.{lay};
 ghost use Rattle.bitwriter.specs.Put.{Room, LastRoom, Put, flushed};
+ghost use Rattle.bitwriter.specs.Pairs.{pairCode};
 
 pub struct BitAcc {
     // The bits that wait, in the low end.
@@ -69,19 +70,32 @@ pub fn put_run(a: BitAcc, n: u32, out: &mut [u8]) -> BitAcc
     put(a, run_word(n, b), 2 * b, out)
 }
 
-// Appends the run code of n, then the value code of c, in one put: 34 bits and 29 bits at most.
+// A run code and the value code after it as one number, and how many bits they are.
+pub struct PairCode {
+    pub bits: u64,
+    pub length: u32,
+}
+
+// The run code of n, then the value code of c: 34 bits and 29 bits at most.
+pub fn pair_code(n: u32, c: u32) -> PairCode
+    requires { ⌜ (n < 2 ^ 17) × (0 < c) × (c < 2 ^ 15) ⌝ }
+    ensures { λ r. ⌜ r ≡ pairCode n c ⌝ }
+{
+    let b = bits::bit_len(n);
+    let k = 2 * bits::bit_len(c) - 1;
+    PairCode {
+        bits: crate::store::join(run_word(n, b), k, c as u64),
+        length: 2 * b + k,
+    }
+}
+
+// Appends the run code of n, then the value code of c, in one put.
 pub fn put_run_value(a: BitAcc, n: u32, c: u32, out: &mut [u8]) -> BitAcc
     requires { ⌜ (n < 2 ^ 17) × (0 < c) × (c < 2 ^ 15) × Room a (length (runCode n ++ valueCode c)) (now out) ⌝ }
     ensures { λ r. ⌜ Put a (now (out .entry)) (runCode n ++ valueCode c) r (now (out .exit)) ⌝ }
 {
-    let b = bits::bit_len(n);
-    let k = 2 * bits::bit_len(c) - 1;
-    put(
-        a,
-        crate::store::join(run_word(n, b), k, c as u64),
-        2 * b + k,
-        out,
-    )
+    let p = pair_code(n, c);
+    put(a, p.bits, p.length, out)
 }
 
 // Stores the bits that wait, with zero bits up to a byte.

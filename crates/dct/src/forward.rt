@@ -46,5 +46,5 @@ pub fn fdct_quant_zig16(rows: &[u16], stride: usize, level: u16, k: &[u16; 192])
 {
     let add = negated(level);
     let block = fdct::load::load16(rows, stride);
-    fdct_quant_zig(block, add, 1, k)
+    crate::ten::fdct_quant_zig(block, add, 1, k)
 }

@@ -1,4 +1,5 @@
 pub mod Places
 pub mod Chain
 pub mod Codes
-mod Walk
+pub mod Walk
+mod Lowest

@@ -1,11 +1,7 @@
-// The two streams of a plane, block by block (encode_plane of slice.rs without the transform): where they begin, one block, where they end.
+// The two streams of a plane, block by block (encode_plane of slice.rs without the transform): where they begin and where they end; one block is for each depth (eight, ten).
 ghost use mathlib.Core.Path.{_≡_};
-ghost use mathlib.Core.List.{[], _∷_};
-ghost use Prim.Native.Nat.{_+_, _≤_, _<_};
-ghost use lib.ListN.{length};
 ghost use Rattle.calls.specs.Views.{positionsBy};
-ghost use Rattle.entropy.specs.plane.Coded.{startOf, BlockRoom, PlaneCoded, EndRoom, Ended};
-use crate::block::AcState;
+ghost use Rattle.entropy.specs.plane.Coded.{startOf, EndRoom, Ended};
 use bitwriter::BitAcc;
 use calls::Positions;
 
@@ -34,32 +30,6 @@ pub fn begin(at: Positions) -> PlaneState
         },
         run: 0,
         pred: 0,
-    }
-}
-
-// Appends one block, its coefficients in scan order: the step of its DC, and its places.
-pub fn code_block(
-    s: PlaneState,
-    z: [i16; 64],
-    shift: u32,
-    dcs: &mut [u8],
-    acs: &mut [u8],
-) -> PlaneState
-    requires { ⌜ BlockRoom shift s (now dcs) (now acs) z ⌝ }
-    ensures { λ r. ⌜ PlaneCoded shift s (now (dcs .entry)) (now (acs .entry)) (z ∷ []) r (now (dcs .exit)) (now (acs .exit)) ⌝ }
-{
-    let dc = s.dc;
-    let ac = s.ac;
-    let d = crate::block::coded_dc(z[0], shift);
-    let next = crate::block::dc_block(dc, scalar::diff16(d, s.pred), dcs);
-    let mask = shuffles::nonzero_mask(z);
-    let coded = crate::block::ac_block(AcState { a: ac, run: s.run }, z, mask, acs);
-    let a = coded.a;
-    PlaneState {
-        dc: next,
-        ac: a,
-        run: coded.run,
-        pred: d,
     }
 }
 

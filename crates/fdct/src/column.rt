@@ -11,15 +11,15 @@ use lanes::sums::adds;
 use lanes::sums::subs;
 
 // Numbers of tables.rs; FDCT_TAN3 is 43790 there, here its 16 bits read as signed.
-const FDCT_ROUND1: i16 = 1;
+pub const FDCT_ROUND1: i16 = 1;
 
-const FDCT_TAN1: i16 = 13036;
+pub const FDCT_TAN1: i16 = 13036;
 
-const FDCT_TAN2: i16 = 27146;
+pub const FDCT_TAN2: i16 = 27146;
 
-const FDCT_TAN3: i16 = -21746;
+pub const FDCT_TAN3: i16 = -21746;
 
-const FDCT_SQRT2: i16 = 23170;
+pub const FDCT_SQRT2: i16 = 23170;
 
 // What the first steps make of eight rows: sums for the even rows, differences of opposite rows for the odd ones.
 pub struct SideRows {

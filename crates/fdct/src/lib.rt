@@ -2,6 +2,7 @@
 pub mod column;
 pub mod level_shift;
 pub mod load;
+pub mod ten;
 
 ghost use mathlib.Core.Path.{_≡_};
 ghost use Prim.Native.Nat.{_<_};

@@ -3,6 +3,7 @@ mod factors;
 pub mod rounding;
 pub mod sides;
 pub mod steps;
+pub mod ten;
 
 ghost use mathlib.Core.Path.{_≡_};
 ghost use Rattle.frow.specs.Rows.{forwardRowsOf};

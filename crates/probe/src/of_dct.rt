@@ -1,13 +1,17 @@
 // The transforms of a block (crate dct).
-ghost use Prim.Native.Nat.{_<_};
+ghost use Rattle.tables.specs.Entries.{Encodes};
 use crate::arrays::block;
 use crate::arrays::put_block;
 
-// The column pass's shift: 1 for 10-bit samples, 3 for 8-bit samples.
-fn column_shift(ten: bool) -> u32
-    ensures { λ r. ⌜ r < 15 ⌝ }
+// Each depth's own forward transform, quantiser and scan.
+fn forward(b: [i16; 64], add: i16, ten: bool, k: &[u16; 192]) -> [i16; 64]
+    requires { ⌜ Encodes (now k) ⌝ }
 {
-    if ten { 1 } else { 3 }
+    if ten {
+        dct::ten::fdct_quant_zig(b, add, 1, k)
+    } else {
+        dct::forward::fdct_quant_zig(b, add, 3, k)
+    }
 }
 
 // Forward transform, quantiser and scan of a block (fdct_quant_zig).
@@ -23,7 +27,7 @@ pub extern "C" fn probe_dct_forward(
         return;
     }
     let k = tables::reciprocals::encode_numbers(preset);
-    let z = dct::forward::fdct_quant_zig(block(rows), add, column_shift(ten), &k);
+    let z = forward(block(rows), add, ten, &k);
     put_block(out, z);
 }
 

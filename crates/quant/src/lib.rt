@@ -1,5 +1,6 @@
 // The quantiser and dequantising, on blocks of 64 by value (the end of `fdct_quant_zig` and the start of `idct8`, `idct16` of dct.rs), and the scan,
 // passed on. Both go by rows of eight lanes (dequantising: quant::eight, quant::ten), the scan by 64 moves.
+pub mod coded_ten;
 pub mod eight;
 pub mod one;
 pub mod scan;
@@ -17,7 +18,7 @@ use lanes::rows::row;
 
 // A row over its divisors, rounded; c, r, s are their corrections, reciprocals and scales. quant1 sets the sign of each lane:
 // by sign16 a block takes longer.
-fn quant_row(x: [i16; 8], c: [u16; 8], r: [u16; 8], s: [u16; 8]) -> [i16; 8]
+pub fn quant_row(x: [i16; 8], c: [u16; 8], r: [u16; 8], s: [u16; 8]) -> [i16; 8]
     requires { ⌜ RowFits c r s x ⌝ }
     ensures { λ q. ⌜ q ≡ multipliedRow c r s x ⌝ }
 {

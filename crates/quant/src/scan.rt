@@ -5,7 +5,7 @@ ghost use lib.Seq.{sets};
 ghost use Rattle.quant.specs.scan.Scan.{fourOf, scanOf};
 
 // Four moves: the elements of n at i0 to i3 go to z from `at` on.
-fn four(z: &mut [i16; 64], at: usize, n: &[i16; 64], i0: usize, i1: usize, i2: usize, i3: usize)
+pub fn four(z: &mut [i16; 64], at: usize, n: &[i16; 64], i0: usize, i1: usize, i2: usize, i3: usize)
     requires { ⌜ (at ≤ 60) × ((i0 < 64) × ((i1 < 64) × ((i2 < 64) × (i3 < 64)))) ⌝ }
     ensures { λ r. ⌜ now (z .exit) ≡ sets (now (z .entry)) at (fourOf (now (n .entry)) i0 i1 i2 i3) ⌝ }
 {

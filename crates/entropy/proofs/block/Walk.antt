@@ -1,15 +1,15 @@
 -- The walk over a block's non-zero places, by the trailing zeros of what is left of the mask.
-use mathlib.Core.Path.{_≡_, refl, sym, ap, _∙_, subst}
+use mathlib.Core.Path.{_≡_, refl, sym, ap, ap₂, _∙_, subst}
 use mathlib.Core.Bool.{Bool}
 use mathlib.Core.List.{List, [], _∷_, _++_, append-assoc, append-nil}
 use Prim.Native.Nat.{ℕ, zero, suc, _+_, _-_, _*_, _/_, _%_, _^_, _≤_, _<_}
-use native.Mathlib.Nat.{add-zero}
+use native.Mathlib.Nat.{add-zero, zero-mul}
 use native.Mathlib.Numerals.{add-one}
 use native.Mathlib.Omega.{arith}
+use lib.Bits.{bitAnd}
 use lib.Count.{trailingZeros, under}
 use lib.IntN.{ℤ, pos, negsuc, natAbs}
 use lib.ListN.{length, drop, getD, length-append, length-drop}
-use lib.Pow.{shr-shr}
 use lib.Seq.{drop-cons, drop-drop, getD-drop}
 use Rattle.scalar.specs.Tab.{lane}
 use Rattle.bits.specs.Bits.{valueCode, runCode}
@@ -20,6 +20,7 @@ use Rattle.bitwriter.specs.Put.{Put, Room}
 use Rattle.bitwriter.specs.declared.BitAcc.{BitAcc}
 use Rattle.entropy.specs.block.Places.{placesCodes, waitingAfter, Small}
 use Rattle.entropy.proofs.block.Places.{value-codes, value-waits, first-codes, first-waits}
+use Rattle.entropy.proofs.block.Lowest.{shifted, none-left, doubled, scaled, cleared}
 use Rattle.entropy.proofs.block.Chain.{put-none, put-put, put-room}
 
 -- ---- the first non-zero place of a row whose mask is m
@@ -28,13 +29,7 @@ pub record Next (l : List ℤ) (m t : ℕ) : Type 0 where
   pub some : lane l t ≡ pos 0 → ⊥
   pub codes : (w : ℕ) → placesCodes w l ≡ placesCodes (w + t) (drop t l)
   pub waits : (w : ℕ) → waitingAfter w l ≡ waitingAfter (w + t) (drop t l)
-  pub mask : m / 2 ^ t / 2 ≡ nonzeroMask (drop (suc t) l)
-
-halved : (m n t : ℕ) → m ≡ 2 * n → m / 2 ^ suc t ≡ n / 2 ^ t
-halved m n t e =
-    let h : m / 2 ≡ n = omega arith in
-    let s : suc t ≡ 1 + t = omega arith in
-    ap (λ (k : ℕ). m / 2 ^ k) s ∙ sym (shr-shr m 1 t) ∙ ap (λ (k : ℕ). k / 2 ^ t) h
+  pub whole : m ≡ nonzeroMask (drop (suc t) l) * 2 ^ suc t + 2 ^ t
 
 zero-place : (l : List ℤ) (m n t : ℕ) → m ≡ 2 * n → Next l n t → Next (pos zero ∷ l) m (suc t)
 unfolding placesCodes waitingAfter
@@ -43,7 +38,7 @@ zero-place l m n t e r = record {
   some = r .some;
   codes = λ w. let s : suc w + t ≡ w + suc t = omega arith in r .codes (suc w) ∙ ap (λ (k : ℕ). placesCodes k (drop t l)) s;
   waits = λ w. let s : suc w + t ≡ w + suc t = omega arith in r .waits (suc w) ∙ ap (λ (k : ℕ). waitingAfter k (drop t l)) s;
-  mask = ap (λ (k : ℕ). k / 2) (halved m n t e) ∙ r .mask;
+  whole = doubled m n (nonzeroMask (drop (suc t) l)) t e (r .whole);
 }
 
 some-place : (c : ℤ) (l : List ℤ) (m n : ℕ) → (c ≡ pos 0 → ⊥) → m ≡ 1 + 2 * n → n ≡ nonzeroMask l → Next (c ∷ l) m 0
@@ -52,7 +47,7 @@ some-place c l m n ne e f = record {
   some = ne;
   codes = λ w. ap (λ (k : ℕ). placesCodes k (c ∷ l)) (sym (add-zero w));
   waits = λ w. ap (λ (k : ℕ). waitingAfter k (c ∷ l)) (sym (add-zero w));
-  mask = omega arith;
+  whole = omega arith;
 }
 
 count-zero : (k m n : ℕ) → m ≡ 2 * n → under (m % 2) (trailingZeros k (m / 2)) ≡ suc (trailingZeros k n)
@@ -102,13 +97,13 @@ none (pos (suc n) ∷ l) e w = absurd (omega arith)
 none (negsuc n ∷ l) e w = absurd (omega arith)
 
 -- ---- the walk
--- the places before at are coded; run zeros wait, and m is the mask of the rest
+-- the places before at are coded; run zeros wait, and m has the places of the rest that are not zero
 pub record Going (z : List ℤ) (a₀ : BitAcc) (o₀ : List ℕ) (run₀ : ℕ) (a : BitAcc) (o : List ℕ) (run m at : ℕ) : Type 0 where
   pub done : List Bool
   pub wrote : Put a₀ o₀ done a o
   pub codes : done ++ placesCodes run (drop at z) ≡ placesCodes run₀ (drop 1 z)
   pub waits : waitingAfter run (drop at z) ≡ waitingAfter run₀ (drop 1 z)
-  pub mask : m ≡ nonzeroMask (drop at z)
+  pub mask : m ≡ nonzeroMask (drop at z) * 2 ^ at
   pub at-le : at ≤ 64
   pub few : run + (64 - at) ≤ 131072
 
@@ -120,39 +115,46 @@ mask-tail (pos zero ∷ z) m h e = omega arith
 mask-tail (pos (suc n) ∷ z) m h e = omega arith
 mask-tail (negsuc n ∷ z) m h e = omega arith
 
-pub going : (z : List ℤ) (a : BitAcc) (o : List ℕ) (run m n : ℕ) → length z ≡ 64 → m ≡ nonzeroMask z → run ≤ 131009 → Room a n o → Going z a o run a o run (m / 2) 1
+pub going : (z : List ℤ) (a : BitAcc) (o : List ℕ) (run m n : ℕ) → length z ≡ 64 → m ≡ nonzeroMask z → run ≤ 131009 → Room a n o → Going z a o run a o run (m / 2 * 2) 1
 going z a o run m n h e f r = record {
   done = [];
   wrote = put-none r;
   codes = refl;
   waits = refl;
-  mask = mask-tail z m h e;
+  mask = ap (λ (k : ℕ). k * 2) (mask-tail z m h e);
   at-le = omega arith;
   few = omega arith;
 }
 
--- one turn
-pub record Turn (z : List ℤ) (run m at t : ℕ) : Type 0 where
-  pub inside : at + t < 64
-  pub some : lane z (at + t) ≡ pos 0 → ⊥
-  pub codes : placesCodes run (drop at z) ≡ (runCode (run + t) ++ valueCode (codeOf (lane z (at + t)))) ++ placesCodes 0 (drop (at + t + 1) z)
-  pub waits : waitingAfter run (drop at z) ≡ waitingAfter 0 (drop (at + t + 1) z)
-  pub mask : m / 2 ^ t / 2 ≡ nonzeroMask (drop (at + t + 1) z)
+-- one turn: p is the next place
+pub record Turn (z : List ℤ) (run m at p : ℕ) : Type 0 where
+  pub from : at ≤ p
+  pub inside : p < 64
+  pub some : lane z p ≡ pos 0 → ⊥
+  pub codes : placesCodes run (drop at z) ≡ (runCode (run + (p - at)) ++ valueCode (codeOf (lane z p))) ++ placesCodes 0 (drop (p + 1) z)
+  pub waits : waitingAfter run (drop at z) ≡ waitingAfter 0 (drop (p + 1) z)
+  pub mask : bitAnd m (m - 1) ≡ nonzeroMask (drop (p + 1) z) * 2 ^ (p + 1)
 
-turn-of : (z : List ℤ) (run m at t : ℕ) → length z ≡ 64 → at ≤ 64 → Next (drop at z) m t → Turn z run m at t
-turn-of z run m at t h l n =
+turn-of : (z : List ℤ) (run m n at t : ℕ) → length z ≡ 64 → at ≤ 64 → Next (drop at z) n t → m ≡ n * 2 ^ at → Turn z run m at (at + t)
+turn-of z run m n at t h l x e =
     let long : length (drop at z) ≡ 64 - at = omega (arith, length-drop at z) in
     let here : lane (drop at z) t ≡ lane z (at + t) = getD-drop at z t (pos 0) in
     let behind : drop (suc t) (drop at z) ≡ drop (at + t + 1) z = drop-drop (suc t) at z ∙ ap (λ (k : ℕ). drop k z) (reach at t) in
     let rest : drop t (drop at z) ≡ lane z (at + t) ∷ drop (at + t + 1) z =
-    drop-cons (drop at z) t (pos 0) (n .inside) ∙ ap (λ (c : ℤ). c ∷ drop (suc t) (drop at z)) here ∙ ap (λ (k : List ℤ). lane z (at + t) ∷ k) behind in
-    let ne : lane z (at + t) ≡ pos 0 → ⊥ = λ e. n .some (here ∙ e) in
+    drop-cons (drop at z) t (pos 0) (x .inside) ∙ ap (λ (c : ℤ). c ∷ drop (suc t) (drop at z)) here ∙ ap (λ (k : List ℤ). lane z (at + t) ∷ k) behind in
+    let ne : lane z (at + t) ≡ pos 0 → ⊥ = λ f. x .some (here ∙ f) in
+    let by : run + t ≡ run + (at + t - at) = omega arith in
     record {
-      inside = omega (arith, n .inside);
+      from = omega arith;
+      inside = omega (arith, x .inside);
       some = ne;
-      codes = n .codes run ∙ ap (placesCodes (run + t)) rest ∙ value-codes (lane z (at + t)) (run + t) (drop (at + t + 1) z) ne;
-      waits = n .waits run ∙ ap (waitingAfter (run + t)) rest ∙ value-waits (lane z (at + t)) (run + t) (drop (at + t + 1) z) ne;
-      mask = n .mask ∙ ap nonzeroMask behind;
+      codes =
+          x .codes run ∙ ap (placesCodes (run + t)) rest ∙ value-codes (lane z (at + t)) (run + t) (drop (at + t + 1) z) ne
+          ∙ ap (λ (k : ℕ). (runCode k ++ valueCode (codeOf (lane z (at + t)))) ++ placesCodes 0 (drop (at + t + 1) z)) by;
+      waits = x .waits run ∙ ap (waitingAfter (run + t)) rest ∙ value-waits (lane z (at + t)) (run + t) (drop (at + t + 1) z) ne;
+      mask =
+          cleared m (nonzeroMask (drop (suc t) (drop at z))) (at + t) (scaled m n (nonzeroMask (drop (suc t) (drop at z))) at t e (x .whole))
+          ∙ ap₂ (λ (l : List ℤ) (k : ℕ). nonzeroMask l * 2 ^ k) behind (sym (add-one (at + t)));
     }
   where
     reach : (a t : ℕ) → a + suc t ≡ a + t + 1
@@ -160,30 +162,32 @@ turn-of z run m at t h l n =
 
 pub turn : {z : List ℤ} {a₀ : BitAcc} {o₀ : List ℕ} {run₀ : ℕ} {a : BitAcc} {o : List ℕ} {run m at : ℕ} → length z ≡ 64 → Going z a₀ o₀ run₀ a o run m at
     → (m ≡ 0 → ⊥) → Turn z run m at (trailingZeros 64 m)
-turn {z} {run} {m} {at} h g n =
-    let long : length (drop at z) ≤ 64 = omega (arith, length-drop at z) in
-    subst (λ (k : ℕ). Turn z run k at (trailingZeros 64 k)) (sym (g .mask))
-    (turn-of z run (nonzeroMask (drop at z)) at (trailingZeros 64 (nonzeroMask (drop at z))) h (g .at-le) (next 64 (drop at z) long (λ e. n (g .mask ∙ e))))
+turn {z} {run} {m} {at} h g ne =
+    let fuel : 64 ≡ at + (64 - at) = omega (arith, g .at-le) in
+    let long : length (drop at z) ≤ 64 - at = omega (arith, length-drop at z) in
+    let e : trailingZeros 64 m ≡ at + trailingZeros (64 - at) (nonzeroMask (drop at z)) =
+    ap₂ trailingZeros fuel (g .mask) ∙ shifted at (64 - at) (nonzeroMask (drop at z)) in
+    subst (λ (p : ℕ). Turn z run m at p) (sym e)
+    (turn-of z run m (nonzeroMask (drop at z)) at (trailingZeros (64 - at) (nonzeroMask (drop at z))) h (g .at-le)
+    (next (64 - at) (drop at z) long (λ f. ne (g .mask ∙ ap (λ (k : ℕ). k * 2 ^ at) f ∙ zero-mul (2 ^ at)))) (g .mask))
 
 -- its bits fit
-pub turn-room : {z : List ℤ} {a₀ : BitAcc} {o₀ : List ℕ} {run₀ : ℕ} {a : BitAcc} {o : List ℕ} {run m at t : ℕ} → Room a₀ (length (placesCodes run₀ (drop 1 z))) o₀
-    → Going z a₀ o₀ run₀ a o run m at → Turn z run m at t → Room a (length (runCode (run + t) ++ valueCode (codeOf (lane z (at + t))))) o
-turn-room {z} {run₀} {run} {at} {t} r g s =
-    let x = runCode (run + t) ++ valueCode (codeOf (lane z (at + t))) in
+pub turn-room : {z : List ℤ} {a₀ : BitAcc} {o₀ : List ℕ} {run₀ : ℕ} {a : BitAcc} {o : List ℕ} {run m at p : ℕ} → Room a₀ (length (placesCodes run₀ (drop 1 z))) o₀
+    → Going z a₀ o₀ run₀ a o run m at → Turn z run m at p → Room a (length (runCode (run + (p - at)) ++ valueCode (codeOf (lane z p)))) o
+turn-room {z} {run₀} {run} {at} {p} r g s =
     let e = ap length (sym (g .codes)) ∙ length-append (g .done) (placesCodes run (drop at z)) in
-    let f = ap length (s .codes) ∙ length-append (runCode (run + t) ++ valueCode (codeOf (lane z (at + t)))) (placesCodes 0 (drop (at + t + 1) z)) in
-    put-room (g .done) (length (runCode (run + t) ++ valueCode (codeOf (lane z (at + t))))) (length (placesCodes run₀ (drop 1 z))) r (g .wrote) (omega (arith, e, f))
+    let f = ap length (s .codes) ∙ length-append (runCode (run + (p - at)) ++ valueCode (codeOf (lane z p))) (placesCodes 0 (drop (p + 1) z)) in
+    put-room (g .done) (length (runCode (run + (p - at)) ++ valueCode (codeOf (lane z p)))) (length (placesCodes run₀ (drop 1 z))) r (g .wrote) (omega (arith, e, f))
 
-pub gone : {z : List ℤ} {a₀ : BitAcc} {o₀ : List ℕ} {run₀ : ℕ} {a : BitAcc} {o : List ℕ} {run m at t : ℕ} {b : BitAcc} {p : List ℕ}
-    → Going z a₀ o₀ run₀ a o run m at → Turn z run m at t → Put a o (runCode (run + t) ++ valueCode (codeOf (lane z (at + t)))) b p
-    → Going z a₀ o₀ run₀ b p 0 (m / 2 ^ t / 2) (at + t + 1)
-gone {z} {a₀} {run} {at} {t} g s v =
-    let x = runCode (run + t) ++ valueCode (codeOf (lane z (at + t))) in
+pub gone : {z : List ℤ} {a₀ : BitAcc} {o₀ : List ℕ} {run₀ : ℕ} {a : BitAcc} {o : List ℕ} {run m at p : ℕ} {b : BitAcc} {w : List ℕ}
+    → Going z a₀ o₀ run₀ a o run m at → Turn z run m at p → Put a o (runCode (run + (p - at)) ++ valueCode (codeOf (lane z p))) b w
+    → Going z a₀ o₀ run₀ b w 0 (bitAnd m (m - 1)) (p + 1)
+gone {z} {a₀} {run} {at} {p} g s v =
     record {
-      done = g .done ++ (runCode (run + t) ++ valueCode (codeOf (lane z (at + t))));
-      wrote = put-put a₀ (g .done) (runCode (run + t) ++ valueCode (codeOf (lane z (at + t)))) (g .wrote) v;
+      done = g .done ++ (runCode (run + (p - at)) ++ valueCode (codeOf (lane z p)));
+      wrote = put-put a₀ (g .done) (runCode (run + (p - at)) ++ valueCode (codeOf (lane z p))) (g .wrote) v;
       codes =
-          append-assoc (g .done) (runCode (run + t) ++ valueCode (codeOf (lane z (at + t)))) (placesCodes 0 (drop (at + t + 1) z))
+          append-assoc (g .done) (runCode (run + (p - at)) ++ valueCode (codeOf (lane z p))) (placesCodes 0 (drop (p + 1) z))
           ∙ ap (λ (l : List Bool). g .done ++ l) (sym (s .codes))
           ∙ g .codes;
       waits = sym (s .waits) ∙ g .waits;
@@ -197,7 +201,7 @@ pub whole : {z : List ℤ} {a₀ : BitAcc} {o₀ : List ℕ} (w : ℕ) {a : BitA
     → Put a₀ o₀ (placesCodes w (withDc (pos 0) z)) a o × (run + (64 - at) ≡ waitingAfter w (withDc (pos 0) z))
 whole {z = []} w h g e = absurd (omega arith)
 whole {z = c ∷ z} {a₀} {o₀} w {a} {o} {run} {m} {at} h g e =
-    let n = none (drop at (c ∷ z)) (sym (g .mask) ∙ e) run in
+    let n = none (drop at (c ∷ z)) (none-left (nonzeroMask (drop at (c ∷ z))) at (sym (g .mask) ∙ e)) run in
     let all : g .done ≡ placesCodes (w + 1) z = sym (append-nil (g .done)) ∙ ap (λ (l : List Bool). g .done ++ l) (sym (n .0)) ∙ g .codes in (
       subst (λ (l : List Bool). Put a₀ o₀ l a o) (all ∙ ap (λ (k : ℕ). placesCodes k z) (add-one w) ∙ sym (first-codes w c z)) (g .wrote),
       omega (arith, n .1, length-drop at (c ∷ z)) ∙ g .waits ∙ ap (λ (k : ℕ). waitingAfter k z) (add-one w) ∙ sym (first-waits w c z),

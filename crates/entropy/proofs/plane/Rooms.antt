@@ -86,6 +86,7 @@ module _ {shift : ℕ} {dc ac : List ℕ} {at : PerStream} {n : ℕ} {bs : List 
       let acs = ap (placesCodes 0) (places-append bs (z ∷ [])) ∙ places-split 0 (places bs) (places (z ∷ [])) ∙ ap (λ (l : List ℤ). placesCodes 0 (places bs) ++ placesCodes (waitingAfter 0 (places bs)) l) (places-one z) in
       record {
         shift-le = b .shift-le;
+        sixty-four = q .sixty-four;
         small = at-most-at z (q .at-most);
         pred-small = rw (b .coded .pred-is) (last-small shift (pos 0) bs (b .shift-le) (omega arith) (dcs-at-most bs (b .quantised)));
         run-few = omega (arith, b .coded .run-is, waiting-le 0 (places bs), places-length bs (b .quantised), b .few);

@@ -39,9 +39,10 @@ pub record PlaneCoded (shift : ℕ) (s : PlaneState) (dc ac : List ℕ) (bs : Li
   pub pred-is : r .pred ≡ lastOf (s .pred) (codedDcs shift bs)
   pub run-is : r .run ≡ waitingAfter (s .run) (places bs)
 
--- what a block asks: small numbers, and room for its codes
+-- what a block asks: 64 small numbers, and room for its codes
 pub record BlockRoom (shift : ℕ) (s : PlaneState) (dc ac : List ℕ) (z : List ℤ) : Type 0 where
   pub shift-le : shift ≤ shiftMax
+  pub sixty-four : length z ≡ 64
   pub small : Small z
   pub pred-small : natAbs (s .pred) ≤ 2048
   pub run-few : s .run + 64 ≤ 2 ^ 17

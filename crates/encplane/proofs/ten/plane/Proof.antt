@@ -17,20 +17,20 @@ use Rattle.encplane.proofs.ten.plane.Statement.{statement}
 use Rattle.encplane.proofs.ten.plane.Tie as tie
 
 abbrev Inv-loop2 : tie.InvT-loop2
-Inv-loop2 rows dcs₀ acs₀ place stride preset shift v k cols w₀ j i₀ dcs acs w i = (i ≤ cols) × From (settings ten preset shift) (plane place stride rows) j w₀ dcs₀ acs₀ j i w dcs acs
+Inv-loop2 rows dcs₀ acs₀ place stride preset shift v k runs values cols w₀ j i₀ dcs acs w i = (i ≤ cols) × From (settings ten preset shift) (plane place stride rows) j w₀ dcs₀ acs₀ j i w dcs acs
 
 abbrev μ-loop2 : tie.MeasureT-loop2
-μ-loop2 rows dcs₀ acs₀ place stride preset shift v k cols w₀ j i₀ dcs acs w i = cols - i
+μ-loop2 rows dcs₀ acs₀ place stride preset shift v k runs values cols w₀ j i₀ dcs acs w i = cols - i
 
 abbrev Inv-loop : tie.InvT-loop
-Inv-loop rows dcs₀ acs₀ place stride preset shift v k cols w₀ j₀ dcs acs w j = (j ≤ 2) × From (settings ten preset shift) (plane place stride rows) 0 w₀ dcs₀ acs₀ j 0 w dcs acs
+Inv-loop rows dcs₀ acs₀ place stride preset shift v k runs values cols w₀ j₀ dcs acs w j = (j ≤ 2) × From (settings ten preset shift) (plane place stride rows) 0 w₀ dcs₀ acs₀ j 0 w dcs acs
 
 abbrev μ-loop : tie.MeasureT-loop
-μ-loop rows dcs₀ acs₀ place stride preset shift v k cols w₀ j₀ dcs acs w j = 2 - j
+μ-loop rows dcs₀ acs₀ place stride preset shift v k runs values cols w₀ j₀ dcs acs w j = 2 - j
 
 -- what the call was given
 abbrev start : tie.After-begin Inv-loop2 μ-loop2 Inv-loop μ-loop → tie.Start Inv-loop2 μ-loop2 Inv-loop μ-loop
-start c = c .before .before .before .before .before .before
+start c = c .before .before .before .before .before .before .before .before
 
 abbrev σ-of : tie.Start Inv-loop2 μ-loop2 Inv-loop μ-loop → Settings
 σ-of s = settingsBy ten (s .args .s)
@@ -94,7 +94,7 @@ fdct-quant-zig16-requires c κs =
     let k = c .before .before in
     let b = k .before .before .before .before .before in
     let s = start b in
-    (part-room (s .args .rows .now) (k .corner .result) (s .args .h .stride) (inside k), (b .before .before .level10 .ensures .1, record { preset = s .args .s .preset; preset-lt = omega (arith, s .pre .settings .preset-le); numbers = b .before .encode-numbers .ensures }))
+    (part-room (s .args .rows .now) (k .corner .result) (s .args .h .stride) (inside k), (b .before .before .before .before .level10 .ensures .1, record { preset = s .args .s .preset; preset-lt = omega (arith, s .pre .settings .preset-le); numbers = b .before .before .before .encode-numbers .ensures }))
 
 -- the block's coefficients
 coefficients : (c : tie.After-fdct-quant-zig16 Inv-loop2 μ-loop2 Inv-loop μ-loop) →
@@ -106,32 +106,33 @@ coefficients c =
     let l = l2 .before .before in
     let b = l .before in
     let s = start b in
-    block-16 (s .args .h .place) (s .args .h .stride) (s .args .s .preset) (b .before .before .level10 .result) (k .corner .result) (s .args .rows .now) (l .loop .j) (l2 .loop2 .i) _ (b .before .before .level10 .ensures .0) (k .corner .ensures) (part-is (s .args .rows .now) (k .corner .result)) (c .fdct-quant-zig16 .ensures (s .args .s .preset) (omega (arith, s .pre .settings .preset-le)) (b .before .encode-numbers .ensures))
+    block-16 (s .args .h .place) (s .args .h .stride) (s .args .s .preset) (b .before .before .before .before .level10 .result) (k .corner .result) (s .args .rows .now) (l .loop .j) (l2 .loop2 .i) _ (b .before .before .before .before .level10 .ensures .0) (k .corner .ensures) (part-is (s .args .rows .now) (k .corner .result)) (c .fdct-quant-zig16 .ensures (s .args .s .preset) (omega (arith, s .pre .settings .preset-le)) (b .before .before .before .encode-numbers .ensures))
 
 code-block-requires : tie.Need-code-block-requires Inv-loop2 μ-loop2 Inv-loop μ-loop
 code-block-requires c κs =
-    let f = c .before .before in
+    let f = c .before .before .before .before .before in
     let i2 = f .before .before .before .before in
     let l2 = i2 .before in
     let l = l2 .before .before in
-    let s = start (l .before) in
-    room (σ-of s) (p-of s) (l .loop .j) (l2 .loop2 .i) (f .fdct-quant-zig16 .result) (s .pre .settings) (l2 .before .loop-test .taken) (i2 .loop2-test .taken) (coefficients f) (state l2)
+    let b = l .before in
+    let s = start b in
+    (room (σ-of s) (p-of s) (l .loop .j) (l2 .loop2 .i) (f .fdct-quant-zig16 .result) (s .pre .settings) (l2 .before .loop-test .taken) (i2 .loop2-test .taken) (coefficients f) (state l2), b .before .before .run-codes .ensures, b .before .value-codes .ensures)
 
 add-i : tie.Need-add-i Inv-loop2 μ-loop2 Inv-loop μ-loop
 add-i c =
-    let i2 = c .before .before .before .before .before .before .before .before .before .before .before in
+    let i2 = c .before .before .before .before .before .before .before .before .before .before .before .before .before .before in
     let s = start (i2 .before .before .before .before) in
     record { fits = omega (arith, i2 .loop2-test .taken, s .pre .plane .stride-le) }
 
 loop2-less : tie.Need-loop2-less Inv-loop2 μ-loop2 Inv-loop μ-loop
 loop2-less c =
-    let i2 = c .before .before .before .before .before .before .before .before .before .before .before in
+    let i2 = c .before .before .before .before .before .before .before .before .before .before .before .before .before .before in
     omega (arith, i2 .loop2-test .taken)
 
 loop2-again : tie.Need-loop2-again Inv-loop2 μ-loop2 Inv-loop μ-loop
 loop2-again c =
     let b = c .before .before .before .before in
-    let f = b .before .before .before in
+    let f = b .before .before .before .before .before .before in
     let i2 = f .before .before .before .before in
     let l2 = i2 .before in
     let l = l2 .before .before in
@@ -188,6 +189,8 @@ plane-spec =
     μ-loop
     (λ c κs. search needs)
     encode-numbers-requires
+    (λ c κs. search needs)
+    (λ c κs. search needs)
     (λ c κs. search needs)
     loop-holds
     loop2-holds

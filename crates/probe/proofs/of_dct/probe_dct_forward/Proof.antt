@@ -4,13 +4,11 @@ use native.Mathlib.Omega.{arith}
 use Rattle.probe.proofs.of_dct.probe_dct_forward.Statement.{statement}
 use Rattle.probe.proofs.of_dct.probe_dct_forward.Tie as tie
 
-fdct-quant-zig-requires : tie.Need-fdct-quant-zig-requires
-fdct-quant-zig-requires c κs =
-    let n = c .before .before .before in
-    let t = n .before in (
-      search needs,
-      record { preset = t .before .args .preset; preset-lt = omega (arith, t .if1 .left); numbers = n .encode-numbers .ensures },
-    )
+forward-requires : tie.Need-forward-requires
+forward-requires c κs =
+    let n = c .before .before in
+    let t = n .before in
+    record { preset = t .before .args .preset; preset-lt = omega (arith, t .if1 .left); numbers = n .encode-numbers .ensures }
 
 pub probe-dct-forward-spec : {M : Type 1} → statement M
 probe-dct-forward-spec =
@@ -19,8 +17,7 @@ probe-dct-forward-spec =
     (λ c. search needs)
     (λ c κs. search needs)
     (λ c κs. search needs)
-    (λ c κs. search needs)
-    fdct-quant-zig-requires
+    forward-requires
     (λ c κs. search needs)
     (λ c. search needs)
     (λ c. search needs))
