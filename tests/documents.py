@@ -3,7 +3,8 @@
 
     python3 tests/documents.py           says where they differ, and fails then; the gate runs it
     python3 tests/documents.py --write   writes the parts that are computed: the table of docs/TRUSTED.md, the
-                                         column of edits of docs/PROMISES.md, the ranges of docs/SPEED.md
+                                         column of edits of docs/PROMISES.md, the ranges of docs/SPEED.md and
+                                         README.md
 """
 import re
 import sys
@@ -19,6 +20,7 @@ TRUSTED = ROOT / "docs/TRUSTED.md"
 PROMISES = ROOT / "docs/PROMISES.md"
 ARCHITECTURE = ROOT / "docs/ARCHITECTURE.md"
 SPEED = ROOT / "docs/SPEED.md"
+README = ROOT / "README.md"
 DECISIONS = ROOT / "docs/DECISIONS.md"
 BEGIN, END = "<!-- computed by tests/documents.py --write -->\n", "\n<!-- computed up to here -->"
 LONGEST = 160
@@ -29,33 +31,54 @@ def named(path):
     return path.relative_to(ROOT).as_posix()
 
 
+def with_computed(path, table):
+    """The page with the table that is computed now."""
+    before, rest = read(path).split(BEGIN)
+    return before + BEGIN + table + END + rest.split(END)[1]
+
+
 # ---- docs/TRUSTED.md
 
 
 def trusted_page():
-    """The page with its table as it is computed now."""
-    before, rest = read(TRUSTED).split(BEGIN)
-    return before + BEGIN + trusted.table() + END + rest.split(END)[1]
+    return with_computed(TRUSTED, trusted.table())
 
 
-# ---- docs/SPEED.md: the ranges are those of its table
+# ---- docs/SPEED.md and README.md: the ranges are those of the table of docs/SPEED.md
 
-RANGES = {
-    "Coding": r"block (of a slice of three planes )?coded, ",
-    "Reading 8-bit": r"block (of a slice of three planes )?read, 8-bit",
-    "Reading 10-bit": r"block (of a slice of three planes )?read, 10-bit",
-}
+CONTENTS = ("smooth", "mixed", "dense")
+
+
+def ratios(form):
+    """The ratios to the SSE2 path, lowest to highest, of the rows whose names begin so."""
+    rows = [cells(line) for line in read(SPEED).split("\n") if line.startswith("| ")]
+    found = sorted(row[3] for row in rows if re.match(form, row[0]))
+    if not found:
+        raise SystemExit(f"documents: docs/SPEED.md has no row that begins with {form}")
+    return found[0] if found[0] == found[-1] else f"{found[0]} to {found[-1]}"
+
+
+def blocks(done, depth, content):
+    return ratios(rf"block (of a slice of three planes )?{done}, {depth}, {content}, ")
 
 
 def speed_page():
-    """The page with the ranges as its table has them: the lowest and the highest ratio to the SSE2 path."""
-    page = read(SPEED)
-    rows = [cells(line) for line in page.split("\n") if line.startswith("| ")]
-    for name, form in RANGES.items():
-        ratios = sorted(row[3] for row in rows if re.match(form, row[0]))
-        page, times = re.subn(rf"(\*\*{name}\*\* takes )[\d.]+ to [\d.]+", rf"\g<1>{ratios[0]} to {ratios[-1]}", page)
-        if times != 1:
-            raise SystemExit(f"documents: docs/SPEED.md says {times} times what **{name}** takes")
+    lines = ["| | " + " | ".join(CONTENTS) + " |", "|---|---|---|---|"]
+    for name, done in ("Coding", "coded"), ("Reading", "read"):
+        for depth in "8-bit", "10-bit":
+            lines.append(f"| {name}, {depth} | " + " | ".join(blocks(done, depth, content) for content in CONTENTS) + " |")
+    return with_computed(SPEED, "\n".join(lines))
+
+
+def readme_page():
+    smooth, mixed, dense = (blocks("read", ".*", content) for content in CONTENTS)
+    said = (
+        f"coding takes {blocks('coded', '.*', '.*')} of the time of the Rust's SSE2 path, reading {smooth} for smooth, "
+        f"{mixed} for mixed and {dense} for dense planes, building a frame {ratios('that frame built')}"
+    )
+    page, times = re.subn(r"coding takes .*, building a frame [\d.]*\d", said, read(README))
+    if times != 1:
+        raise SystemExit(f"documents: README.md says {times} times what coding takes")
     return page
 
 
@@ -303,9 +326,11 @@ def main(words):
         PROMISES.write_text(promises_page()[0], encoding="utf-8")
         TRUSTED.write_text(trusted_page(), encoding="utf-8")
         SPEED.write_text(speed_page(), encoding="utf-8")
+        README.write_text(readme_page(), encoding="utf-8")
         read.cache_clear()
     page, problems = promises_page()
     problems += [*differs(PROMISES, page), *differs(TRUSTED, trusted_page()), *differs(SPEED, speed_page())]
+    problems += differs(README, readme_page())
     problems += too_long(DECISIONS, 2500)
     problems += [*edit_problems(), *crate_problems(), *naming_problems(), *unknown_names(), *trace_problems()]
     problems += [*rows_not_met(), *exports_without_edits(), *long_contract_lines()]

@@ -1,8 +1,9 @@
 #!/usr/bin/env bash
-# Instructions that a plane takes (stride 1,920, preset 8), or a frame of 136 streams, ours against the Rust's SSE2 path,
-# counted by callgrind: repeatable whatever the machine is doing, so that a change that loses vector code is seen. The
-# margins are in hundredths of the Rust's. (A frame built: where the processor has it, the copy of a long stream is one rep
-# movsb on both sides, which is counted by the byte: so only a copy by single bytes, of several instructions each, is seen.)
+# Instructions that a plane takes (stride 1,920; depth, content and preset in the name), or a frame of 136 streams, ours
+# against the Rust's SSE2 path, counted by callgrind: repeatable whatever the machine is doing, so that a change that loses
+# vector code is seen, or a gain. The margins are in hundredths of the Rust's, 2 or 3 above what was measured: lower them with
+# each gain. (A frame built: where the processor has it, the copy of a long stream is one rep movsb on both sides,
+# counted by the byte: so only a copy by single bytes, of several instructions each, is seen.)
 set -euo pipefail
 shopt -s inherit_errexit # a command that fails inside $(..) ends the test
 cd "$(dirname "$0")/.."
@@ -38,13 +39,27 @@ while read -r what margin; do
     echo "instructions: $what: ours $ours, the Rust $rust, $hundredths of 100 (at most $margin)"
     [ "$hundredths" -le "$margin" ] || { echo "instructions: $what takes too many"; exit 1; }
 done <<'TABLE'
-code8 76
-code10 76
-read8 100
-read10 88
-preview 90
-report 72
-parse 60
-streams 85
+code8-smooth-8 71
+code8-mixed-8 60
+code8-dense-8 57
+code10-smooth-8 71
+code10-mixed-8 60
+code10-dense-8 56
+read8-smooth-0 59
+read8-smooth-8 70
+read8-mixed-0 90
+read8-mixed-8 66
+read8-dense-0 93
+read8-dense-8 60
+read10-smooth-0 52
+read10-smooth-8 54
+read10-mixed-0 79
+read10-mixed-8 57
+read10-dense-0 86
+read10-dense-8 55
+preview 84
+report 35
+parse 48
+streams 70
 build 200
 TABLE

@@ -18,7 +18,7 @@ mod questions;
 mod report;
 
 const USAGE: &str =
-    "usage: oracle differential SECONDS SEED [LAYER..] | answers | bench [PART..] | work WHO WHAT TIMES";
+    "usage: oracle differential SECONDS SEED [LAYER..] | answers | bench [PART..] [CONTENT..] | work WHO WHAT TIMES";
 
 #[cfg(published)]
 fn main() -> std::process::ExitCode {

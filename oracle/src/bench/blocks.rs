@@ -1,6 +1,6 @@
 //! Symbols, and transforms with their quantisers: the parts of a plane's time.
 
-use super::{content, Table};
+use super::{Content, Table};
 use crate::gen::Rng;
 use crate::ours;
 use reference::api::bits::{AcSymbol, Cursor, Writer};
@@ -60,7 +60,7 @@ pub fn blocks(t: &mut Table) {
     const N: usize = STRIDE / 8;
     let preset = 8;
     let q = quant(preset);
-    let (eight, ten) = (content::<u8>(STRIDE).2, content::<u16>(STRIDE).2);
+    let (eight, ten) = (Content::Mixed.plane::<u8>(STRIDE).2, Content::Mixed.plane::<u16>(STRIDE).2);
     let mut z = [0i16; 64];
     let mut ours = || ours::dct::forward_row8(black_box(&eight), STRIDE, preset, &mut z);
     let [mut sse2, mut portable] = PATHS.map(|path| {

@@ -2,7 +2,7 @@
 //! built from them. The Rust's `parse` does the first two at once; nothing here depends on its path.
 
 use super::planes::{coded, three_planes};
-use super::{Table, LAPS};
+use super::{Content, Table, LAPS};
 use crate::ours;
 use crate::questions::Settings;
 use reference::api::layout::{self, Layout};
@@ -26,7 +26,7 @@ pub struct Frame {
 impl Frame {
     pub fn new(before: usize) -> Self {
         let layout = Layout::new(SIZE.0, SIZE.1).unwrap();
-        let b = coded(Settings { preset: 8, dc_shift: 0 }, &three_planes::<u8>());
+        let b = coded(Settings { preset: 8, dc_shift: 0 }, &three_planes::<u8>(Content::Mixed));
         let (dc, ac) = (vec![b.dc; layout.slices()], vec![b.ac; layout.slices()]);
         let (bytes, table) = (vec![0; before], vec![0; 4 * layout.slices()]);
         let mut frame = Frame { layout, dc, ac, before, bytes, table };

@@ -3,25 +3,25 @@
 //! so that a change of the machine's clock meets all of them.
 
 mod blocks;
+mod content;
 mod frames;
 mod planes;
+mod processor;
 mod work;
 
 pub use work::work;
 
-use crate::calls::Plane;
-use crate::gen::planes::Made;
-use crate::gen::Rng;
+use content::{Content, CONTENTS};
 use std::hint::black_box;
 use std::process::ExitCode;
 use std::time::{Duration, Instant};
 
 /// How often all rows are gone through, so that a disturbance of a second meets a row once; in each lap, rounds at least, how
 /// often a side runs in each of them, and how long a row takes at least.
-const LAPS: usize = 3;
+const LAPS: usize = 5;
 const ROUNDS: usize = 15;
 const TURNS: usize = 5;
-const ROW: Duration = Duration::from_millis(200);
+const ROW: Duration = Duration::from_millis(150);
 /// Where a block lies on the stack, seen from a plane's rows, moves a time by a tenth, and is another in each run of a program:
 /// so each round starts at another depth of the stack, over a page and more.
 const DEPTHS: usize = 15;
@@ -36,13 +36,20 @@ const PARTS: [Part; 5] = [
     ("frames", frames::frames),
 ];
 
-/// All parts, or those that are named.
-pub fn run(parts: &[&str]) -> ExitCode {
-    let mut table = Table { lap: 0, frames: Vec::new(), rows: Vec::new() };
+/// All parts, or those that are named; in them all contents, or those that are named.
+pub fn run(words: &[&str]) -> ExitCode {
+    let (parts, contents) = (PARTS.map(|p| p.0), CONTENTS.map(Content::name));
+    if let Some(word) = words.iter().find(|w| !parts.contains(w) && !contents.contains(w)) {
+        eprintln!("bench: {word} is none of {} {}", parts.join(" "), contents.join(" "));
+        return ExitCode::FAILURE;
+    }
+    let wanted = |name: &str, all: &[&str]| words.contains(&name) || !words.iter().any(|w| all.contains(w));
+    let contents = CONTENTS.into_iter().filter(|c| wanted(c.name(), &contents)).collect();
+    let mut table = Table { contents, lap: 0, frames: Vec::new(), rows: Vec::new() };
     for lap in 0..LAPS {
         table.lap = lap;
         for (name, part) in PARTS {
-            if parts.is_empty() || parts.contains(&name) {
+            if wanted(name, &parts) {
                 part(&mut table);
             }
         }
@@ -51,6 +58,7 @@ pub fn run(parts: &[&str]) -> ExitCode {
         "ns each, best of {} rounds or more of {TURNS} turns; ratio: ours over the column before it",
         LAPS * ROUNDS
     );
+    println!("Processor: {}.", processor::processor());
     println!("No buffer is cleared before a turn. The Rust's coding also grows its vectors.\n");
     table.print();
     ExitCode::SUCCESS
@@ -73,6 +81,7 @@ fn deeper(n: usize, side: &mut dyn FnMut()) -> Duration {
 
 /// Each row's name and least times: ours, the Rust's and, where it differs, its portable path's.
 pub struct Table {
+    contents: Vec<Content>,
     lap: usize,
     frames: Vec<frames::Frame>,
     rows: Vec<(String, Vec<f64>)>,
@@ -112,22 +121,4 @@ impl Table {
             println!(" |");
         }
     }
-}
-
-/// A plane whose left half is smooth and whose right half has noise of a quarter of the range.
-fn content<T: Made>(stride: usize) -> Plane<T> {
-    let mut rng = Rng::new(11);
-    let lanes: Vec<u16> = (0..16 * stride)
-        .map(|i| {
-            let (x, y) = (i % stride, i / stride);
-            let m = T::MAX as usize;
-            let v = (x * m / stride + 3 * y) % (m + 1);
-            if x < stride / 2 {
-                v as u16
-            } else {
-                ((v + rng.below(m / 4)) % (m + 1)) as u16
-            }
-        })
-        .collect();
-    (0, stride, lanes.into_iter().map(|v| T::make(&mut rng, v)).collect())
 }

@@ -1,6 +1,6 @@
 //! Planes and slices coded and read, previews and block reports: the exported calls.
 
-use super::{content, Table};
+use super::{Content, Table};
 use crate::calls::{Buffers, Calls, Plane, PlaneCoder, Rust};
 use crate::gen::planes::Made;
 use crate::ours::planes::OURS;
@@ -13,28 +13,24 @@ use std::hint::black_box;
 /// a block at two strides can be compared, and no plane is so short that the processor learns its branches.
 const WIDE: usize = 7680;
 
+const STRIDES: [usize; 3] = [64, 1920, WIDE];
+const PRESETS: [usize; 3] = [0, 8, 24];
+
 /// Planes and slices coded and read, previews, block reports: ns a block.
 pub fn calls<T: Made>(t: &mut Table, depth: &str) {
-    for (stride, presets) in [(1920, &[0, 8, 24][..]), (64, &[8]), (WIDE, &[8])] {
-        let planes = cut(&content::<T>(WIDE), stride);
-        for preset in presets {
-            coding(
-                t,
-                &format!("{depth}, stride {stride}, preset {preset}"),
-                Settings { preset: *preset, dc_shift: 0 },
-                &planes,
-            );
+    for content in t.contents.clone() {
+        let wide = content.plane::<T>(WIDE);
+        for stride in STRIDES {
+            let planes = cut(&wide, stride);
+            for row in [coding, reading] {
+                for preset in PRESETS {
+                    let name = format!("{depth}, {content}, stride {stride}, preset {preset}");
+                    row(t, &name, Settings { preset, dc_shift: 0 }, &planes);
+                }
+            }
         }
-        for preset in presets {
-            reading(
-                t,
-                &format!("{depth}, stride {stride}, preset {preset}"),
-                Settings { preset: *preset, dc_shift: 0 },
-                &planes,
-            );
-        }
+        slices::<T>(t, depth, content);
     }
-    slices::<T>(t, depth);
     alone::<T>(t, depth);
 }
 
@@ -101,14 +97,14 @@ fn reading<T: Made>(t: &mut Table, name: &str, settings: Settings, planes: &[Pla
 }
 
 /// The planes of a slice, 4:2:2.
-pub fn three_planes<T: Made>() -> Vec<Plane<T>> {
-    [1920, 960, 960].iter().enumerate().map(|(p, s)| (p, *s, content::<T>(*s).2)).collect()
+pub fn three_planes<T: Made>(content: Content) -> Vec<Plane<T>> {
+    [1920, 960, 960].iter().enumerate().map(|(p, s)| (p, *s, content.plane::<T>(*s).2)).collect()
 }
 
 /// A slice of three planes.
-fn slices<T: Made>(t: &mut Table, depth: &str) {
+fn slices<T: Made>(t: &mut Table, depth: &str, content: Content) {
     let settings = Settings { preset: 8, dc_shift: 0 };
-    let planes = three_planes::<T>();
+    let planes = three_planes::<T>(content);
     let blocks = blocks(&planes);
     let mut b = room(3840);
     let mut ours = || {
@@ -119,7 +115,7 @@ fn slices<T: Made>(t: &mut Table, depth: &str) {
         let (rust, planes) = (Rust::new(path), &planes);
         move || planes.iter().for_each(|p| drop(black_box(rust.streams(settings, p))))
     });
-    let name = format!("block of a slice of three planes coded, {depth}, preset 8");
+    let name = format!("block of a slice of three planes coded, {depth}, {content}, preset 8");
     t.row(&name, blocks, &mut [&mut ours, &mut sse2, &mut portable]);
     let b = coded(settings, &planes);
     let (mut own, rows) = (b.clone(), RefCell::new(planes.clone()));
@@ -136,7 +132,7 @@ fn slices<T: Made>(t: &mut Table, depth: &str) {
             }
         }
     });
-    let name = format!("block of a slice of three planes read, {depth}, preset 8");
+    let name = format!("block of a slice of three planes read, {depth}, {content}, preset 8");
     t.row(&name, blocks, &mut [&mut ours, &mut sse2, &mut portable]);
 }
 
@@ -159,7 +155,7 @@ pub struct Streams {
 
 impl Streams {
     pub fn new<T: Made>() -> Self {
-        let b = coded(Settings { preset: 8, dc_shift: 0 }, &[content::<T>(1920)]);
+        let b = coded(Settings { preset: 8, dc_shift: 0 }, &[Content::Mixed.plane::<T>(1920)]);
         Streams { b, rows: [vec![0; 240], vec![0; 240]], flat: vec![0; 480] }
     }
 
