@@ -50,7 +50,7 @@ pub record NextDc (s : List ℕ) (c : AcCursor) (g : Got) : Type 0 where
 
 -- ---- inner functions
 
--- 31 bits were looked at, e of them the head: number 0 where the code is longer, and then a zero stands after the head
+-- at least 31 bits were looked at, e of them the head: number 0 where the code is longer, and then a zero stands after the head
 pub record Looked (s : List ℕ) (c : AcCursor) (e : ℕ) (g : Got) : Type 0 where
   pub next : Next s c g
   pub stays : g .num ≡ 0 → g .c .pos ≡ c .pos
@@ -62,3 +62,14 @@ pub record Long (c : AcCursor) (r v : ℕ) (g : Got) : Type 0 where
   pub number : g .num ≡ v
   pub stays : v ≡ 0 → g .c ≡ c
   pub goes : 0 < v → g .c ≡ record { pos = c .pos + (2 * (64 - leadingZeros 64 v) + r - 1); bits = 0; count = 0 }
+
+-- a look at the word alone, whatever stream it is of: a symbol that ends within it, or number 0, and then a zero stands after the head
+pub record Seen (c : AcCursor) (g : Got) : Type 0 where
+  pub symbol : (s : List ℕ) → At s c → 0 < g .num → NextSymbol s c g
+  pub none : g .num ≡ 0 → g .c ≡ c
+  pub some : 0 < g .num → c .pos < g .c .pos
+  pub near : g .c .pos ≤ c .pos + 64
+  pub count : g .c .count ≤ 64
+  pub small : g .num < 2 ^ 56
+  pub head : (s : List ℕ) → At s c → 0 < c .count → g .run ≡ bit (bitAt s (c .pos))
+  pub long : (s : List ℕ) → At s c → 2 < c .count → g .num ≡ 0 → bitAt s (c .pos + g .run) ≡ false

@@ -9,7 +9,7 @@ ghost use Rattle.bits.specs.Bits.{bitAt, bytesFor};
 ghost use Rattle.bits.specs.Read.{readTail, readSymbol, readDc};
 ghost use Rattle.bits.specs.Signed.{signedOf};
 ghost use Rattle.bitreader.specs.words.Word.{numberOf};
-ghost use Rattle.bitreader.specs.Cursor.{At, symbolOf, NextSymbol, NextDc, Looked, Long, dcCodeOf};
+ghost use Rattle.bitreader.specs.Cursor.{At, symbolOf, NextSymbol, NextDc, Looked, Long, Seen, dcCodeOf};
 
 // A place in a stream, with the next bits at the top of a word.
 pub struct AcCursor {
@@ -47,7 +47,7 @@ pub fn end_byte(c: AcCursor) -> usize
 }
 
 // n bits further.
-fn skip(c: AcCursor, n: u32) -> AcCursor
+pub fn skip(c: AcCursor, n: u32) -> AcCursor
     requires { ⌜ (n ≤ c .count) × (n < 64) × (c .pos < 2 ^ 62) ⌝ }
     ensures { λ r. ⌜ (r .pos ≡ c .pos + n) × (r .count ≡ c .count - n) × (r .bits ≡ (c .bits * 2 ^ n) % 2 ^ 64) ⌝ }
 {
@@ -83,26 +83,35 @@ fn digits(t: u64, y: u32) -> u64
     (t << y) >> (63 - y)
 }
 
-// The symbol at a cursor by one look at 31 bits, the same for all three kinds: run is the head, y zeros follow. Number 0: it is longer.
-fn quick(s: &[u8], c0: AcCursor) -> Got
-    requires { ⌜ At (now s) c0 × (c0 .pos < 2 ^ 60) ⌝ }
-    ensures { λ r. ⌜ Looked (now (s .entry)) c0 (r .run) r × (0 < r .num → symbolOf r ≡ readSymbol (bitAt (now (s .entry))) (c0 .pos)) ⌝ }
+// The symbol at a cursor by one look at its word, the same for all three kinds: run is the head, y zeros follow.
+// Number 0: it does not end before the word's last bit.
+pub fn look(c: AcCursor) -> Got
+    requires { ⌜ (c .count ≤ 64) × (c .pos < 2 ^ 61) ⌝ }
+    ensures { λ r. ⌜ Seen c r ⌝ }
 {
-    let c = filled(s, c0);
     let run = c.bits >> 63;
     let t = c.bits << run;
     let y = u64::leading_zeros(t);
-    if y > 14 {
+    let n = 2 * y + 1 + run as u32;
+    if c.count <= n {
         return Got { run, num: 0, c };
     }
     Got {
         run,
         num: digits(t, y),
-        c: skip(c, 2 * y + 1 + run as u32),
+        c: skip(c, n),
     }
 }
 
-// The same of the DC stream, where the head's second bit counts for nothing.
+// The same with a word of at least 32 bits.
+fn quick(s: &[u8], c0: AcCursor) -> Got
+    requires { ⌜ At (now s) c0 × (c0 .pos < 2 ^ 60) ⌝ }
+    ensures { λ r. ⌜ Looked (now (s .entry)) c0 (r .run) r × (0 < r .num → symbolOf r ≡ readSymbol (bitAt (now (s .entry))) (c0 .pos)) ⌝ }
+{
+    look(filled(s, c0))
+}
+
+// The same of the DC stream, where the head's second bit counts for nothing, by 31 bits.
 fn quick_dc(s: &[u8], c0: AcCursor) -> Got
     requires { ⌜ At (now s) c0 × (c0 .pos < 2 ^ 60) ⌝ }
     ensures { λ r. ⌜ Looked (now (s .entry)) c0 0 r × (0 < r .num → dcCodeOf r ≡ readDc (bitAt (now (s .entry))) (c0 .pos)) ⌝ }

@@ -28,7 +28,7 @@ fn join8(a: u8, b: u8, c: u8, d: u8, e: u8, f: u8, g: u8, h: u8) -> u64
 }
 
 // Eight whole bytes of the stream as a number.
-fn word(s: &[u8], i: usize) -> u64
+pub fn word(s: &[u8], i: usize) -> u64
     requires { ⌜ i + 8 ≤ length (now s) ⌝ }
     ensures { λ r. ⌜ r ≡ num 64 0 (bitAt (now (s .entry))) (8 * i) ⌝ }
 {

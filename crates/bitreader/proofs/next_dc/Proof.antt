@@ -1,6 +1,6 @@
 -- `bitreader::next_dc` meets its contract: where the look finds a longer code, the slow path reads it. Assumes nothing.
 use native.Mathlib.Omega.{arith}
-use Rattle.bitreader.proofs.Looks.{dc-next, dc-answer}
+use Rattle.bitreader.proofs.Longs.{dc-next, dc-answer}
 use borrow.Author.Needs.{needs}
 use Rattle.bitreader.proofs.next_dc.Statement.{statement}
 use Rattle.bitreader.proofs.next_dc.Tie as tie

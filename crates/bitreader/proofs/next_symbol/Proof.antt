@@ -1,6 +1,6 @@
 -- `bitreader::next_symbol` meets its contract: where the look finds a longer code, the slow path reads it. Assumes nothing.
 use native.Mathlib.Omega.{arith}
-use Rattle.bitreader.proofs.Looks.{head-two, long-next, long-symbol}
+use Rattle.bitreader.proofs.Longs.{head-two, long-next, long-symbol}
 use borrow.Author.Needs.{needs}
 use Rattle.bitreader.proofs.next_symbol.Statement.{statement}
 use Rattle.bitreader.proofs.next_symbol.Tie as tie

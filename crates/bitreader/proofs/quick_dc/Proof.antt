@@ -1,9 +1,8 @@
 -- `bitreader::quick_dc` meets its contract. Assumes nothing.
 use mathlib.Core.Path.{refl}
-use Prim.Native.Nat.{_-_, _*_, _/_, _%_, _^_}
 use native.Mathlib.Omega.{arith}
 use lib.Count.{leadingZeros}
-use Rattle.bitreader.proofs.Looks.{head-most, here, look-long, look-short, look-dc}
+use Rattle.bitreader.proofs.Looks.{dc-stays, dc-goes, dc-code}
 use borrow.Author.Needs.{needs}
 use Rattle.bitreader.proofs.quick_dc.Statement.{statement}
 use Rattle.bitreader.proofs.quick_dc.Tie as tie
@@ -14,10 +13,8 @@ filled-requires c κs = search needs
 returns : tie.Need-returns
 returns c =
     let f = c .before .before .filled in
-    let a = c .before .before .before .before .args in (
-      look-long (a .s .now) (a .c0) (f .result) (f .ensures .0) (f .ensures .1) (f .ensures .2) 0 (f .result .count) (f .result .bits) (here (a .s .now) (a .c0) (f .result) (f .ensures .0) (f .ensures .1) (f .ensures .2)) (omega (arith, head-most (a .s .now) (a .c0) (f .result) (f .ensures .0) (f .ensures .1) (f .ensures .2), f .ensures .2)) (omega (arith, f .ensures .0 .most)) (c .if1 .taken),
-      λ z. absurd (omega (arith, z)),
-    )
+    let a = c .before .before .before .before .args in
+    (dc-stays (a .s .now) (a .c0) (f .result) (f .ensures .0) (f .ensures .1) (f .ensures .2) (c .if1 .taken), λ z. absurd (omega (arith, z)))
 
 digits-requires : tie.Need-digits-requires
 digits-requires c κs = search needs
@@ -40,9 +37,12 @@ skip-requires c κs = search needs
 returns-2 : tie.Need-returns-2
 returns-2 c =
     let f = c .before .before .before .before .filled in
-    let a = c .before .before .before .before .before .before .args in (
-      look-short (a .s .now) (a .c0) (f .result) (f .ensures .0) (f .ensures .1) (f .ensures .2) 0 (f .result .count) (f .result .bits) (here (a .s .now) (a .c0) (f .result) (f .ensures .0) (f .ensures .1) (f .ensures .2)) (omega (arith, head-most (a .s .now) (a .c0) (f .result) (f .ensures .0) (f .ensures .1) (f .ensures .2), f .ensures .2)) (omega (arith, f .ensures .0 .most)) (leadingZeros 64 (f .result .bits)) (c .before .digits .result) (c .skip .result) refl (c .before .before .if1 .left) (c .before .digits .ensures) (c .skip .ensures .0) (c .skip .ensures .1) (c .skip .ensures .2),
-      λ z. look-dc (a .s .now) (a .c0) (f .result) (f .ensures .0) (f .ensures .1) (f .ensures .2) 0 (f .result .count) (f .result .bits) (here (a .s .now) (a .c0) (f .result) (f .ensures .0) (f .ensures .1) (f .ensures .2)) (omega (arith, head-most (a .s .now) (a .c0) (f .result) (f .ensures .0) (f .ensures .1) (f .ensures .2), f .ensures .2)) (omega (arith, f .ensures .0 .most)) (leadingZeros 64 (f .result .bits)) (c .before .digits .result) (c .skip .result) refl (c .before .before .if1 .left) (c .before .digits .ensures) (c .skip .ensures .0) (c .skip .ensures .1) (c .skip .ensures .2) refl,
+    let a = c .before .before .before .before .before .before .args in
+    let y = leadingZeros 64 (f .result .bits) in
+    let n = c .before .digits in
+    let k = c .skip in (
+      dc-goes (a .s .now) (a .c0) (f .result) (f .ensures .0) (f .ensures .1) (f .ensures .2) y (n .result) (k .result) refl (c .before .before .if1 .left) (n .ensures) (k .ensures .0) (k .ensures .1) (k .ensures .2),
+      λ z. dc-code (a .s .now) (a .c0) (f .result) (f .ensures .0) (f .ensures .1) (f .ensures .2) y (n .result) (k .result) refl (c .before .before .if1 .left) (n .ensures) (k .ensures .0) (k .ensures .1) (k .ensures .2),
     )
 
 pub quick-dc-spec : {M : Type 1} → statement M
