@@ -10,7 +10,7 @@ use Rattle.bits.specs.Bits.{Stream, bitAt}
 use Rattle.bits.specs.Read.{DcCode, badDc, zeroStep, step, readDc}
 use Rattle.calls.specs.ReadPlane.{Places, badPlaces, places, readPlaces, BlockRead, Blocks, badBlocks, blocks, byPlaces, readBlocks, DcSteps, badSteps, dcSteps, byDcCode, readSteps, PlaneRead, badPlane, planeRead}
 use Rattle.blockread.specs.On.{onStreams, readOn, goodPlane, blockFirst, blockOf, NextBlock}
-use Rattle.blockread.specs.ac.Places.{goodPlaces}
+use Rattle.acplaces.specs.Places.{goodPlaces}
 use Rattle.blockread.specs.declared.Stand.{Stand}
 use Rattle.blockread.specs.declared.BlockGot.{BlockGot}
 use Rattle.acread.specs.through.Codes.{goodSteps}
@@ -66,20 +66,20 @@ pub first-steps : (shift n : ℕ) (dc ac : List ℕ) (s : Stand) → goodPlane (
 unfolding readOn
 first-steps shift n dc ac s e =
     code-good n (bitAt dc) (s .dc .pos)
-    (steps-good shift (s .last) (readSteps (suc n) (bitAt dc) (s .dc .pos)) (readBlocks (suc n) (bitAt ac) (s .ac .pos) (s .pending)) e)
+    (steps-good shift (s .last) (readSteps (suc n) (bitAt dc) (s .dc .pos)) (readBlocks (suc n) (bitAt ac) (s .ac) (s .pending)) e)
 
-pub first-places : (shift n : ℕ) (dc ac : List ℕ) (s : Stand) → goodPlane (readOn shift (suc n) dc ac s) ≡ true → goodPlaces (readPlaces 64 (bitAt ac) (s .ac .pos) (s .pending)) ≡ true
+pub first-places : (shift n : ℕ) (dc ac : List ℕ) (s : Stand) → goodPlane (readOn shift (suc n) dc ac s) ≡ true → goodPlaces (readPlaces 64 (bitAt ac) (s .ac) (s .pending)) ≡ true
 unfolding readOn
 first-places shift n dc ac s e =
-    places-good n (bitAt ac) (s .ac .pos) (s .pending)
-    (blocks-good shift (s .last) (readSteps (suc n) (bitAt dc) (s .dc .pos)) (readBlocks (suc n) (bitAt ac) (s .ac .pos) (s .pending)) e)
+    places-good n (bitAt ac) (s .ac) (s .pending)
+    (blocks-good shift (s .last) (readSteps (suc n) (bitAt dc) (s .dc .pos)) (readBlocks (suc n) (bitAt ac) (s .ac) (s .pending)) e)
 
 -- a good plane's first block is good
 pub good-first : (shift n : ℕ) (dc ac : List ℕ) (s : Stand) → goodPlane (readOn shift (suc n) dc ac s) ≡ true → goodPlane (readOn shift 1 dc ac s) ≡ true
 unfolding readOn
 good-first shift n dc ac s e =
-    both-good shift (s .last) (readSteps 1 (bitAt dc) (s .dc .pos)) (readBlocks 1 (bitAt ac) (s .ac .pos) (s .pending))
-    (first-steps shift n dc ac s e) (one-good (bitAt ac) (s .ac .pos) (s .pending) (first-places shift n dc ac s e))
+    both-good shift (s .last) (readSteps 1 (bitAt dc) (s .dc .pos)) (readBlocks 1 (bitAt ac) (s .ac) (s .pending))
+    (first-steps shift n dc ac s e) (one-good (bitAt ac) (s .ac) (s .pending) (first-places shift n dc ac s e))
 
 first-good : (b : BlockRead) (x : PlaneRead) → goodPlane (blockFirst b x) ≡ goodPlane x
 first-good b badPlane = refl

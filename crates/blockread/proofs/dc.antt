@@ -1,3 +1,4 @@
 pub mod Signs
 pub mod Back
 pub mod Steps
+pub mod Scan

@@ -1,3 +1,2 @@
 pub mod On
-pub mod ac
 pub mod dc

@@ -23,7 +23,7 @@ onStreams shift before (dcSteps ts qd) (blocks bs qa r) = planeRead (withDcs (pr
 
 -- n blocks from where a plane's reading stands
 unfoldable pub readOn : ℕ → ℕ → List ℕ → List ℕ → Stand → PlaneRead
-readOn shift n dc ac s = onStreams shift (s .last) (readSteps n (bitAt dc) (s .dc .pos)) (readBlocks n (bitAt ac) (s .ac .pos) (s .pending))
+readOn shift n dc ac s = onStreams shift (s .last) (readSteps n (bitAt dc) (s .dc .pos)) (readBlocks n (bitAt ac) (s .ac) (s .pending))
 
 -- no bad code
 abbrev pub goodPlane : PlaneRead → Bool
@@ -38,25 +38,24 @@ blockFirst b (planeRead bs qd qa) = planeRead (b ∷ bs) qd qa
 abbrev pub blockOf : BlockGot → BlockRead
 blockOf g = record { symbolRead = not (g .flat); coeffs = scanOf (g .nat) }
 
--- both cursors hold bits of their streams, and the zeros still to come are few enough to count on
-pub record Ready (dc ac : List ℕ) (s : Stand) : Type 0 where
+-- the cursor holds bits of the DC stream, and the zeros still to come are few enough to count on
+pub record Ready (dc : List ℕ) (s : Stand) : Type 0 where
   pub dc-holds : At dc (s .dc)
-  pub ac-holds : At ac (s .ac)
   pub few : s .pending < 2 ^ 57
   pub fits : SFits w16 (s .last)
 
 -- a plane's start: both streams at these positions, no zeros to come, and "the prediction starts at 0 in each plane"
-pub record Begun (dc ac : List ℕ) (at : PerStream) (s : Stand) : Type 0 where
-  pub ready : Ready dc ac s
+pub record Begun (dc : List ℕ) (at : PerStream) (s : Stand) : Type 0 where
+  pub ready : Ready dc s
   pub dc-at : s .dc .pos ≡ 8 * at .dc
-  pub ac-at : s .ac .pos ≡ 8 * at .ac
+  pub ac-at : s .ac ≡ 8 * at .ac
   pub none-pending : s .pending ≡ 0
   pub none-before : s .last ≡ pos 0
 
 -- the first of suc n blocks was read, however many follow
 pub record NextBlock (shift : ℕ) (dc ac : List ℕ) (s : Stand) (g : BlockGot) : Type 0 where
   pub first : (n : ℕ) → readOn shift (suc n) dc ac s ≡ blockFirst (blockOf g) (readOn shift n dc ac (g .next))
-  pub ready : Ready dc ac (g .next)
+  pub ready : Ready dc (g .next)
   pub dc-near : g .next .dc .pos ≤ s .dc .pos + 112
-  pub ac-near : g .next .ac .pos ≤ s .ac .pos + 7168
+  pub ac-near : g .next .ac ≤ s .ac + 7168
   pub places : length (g .nat) ≡ 64

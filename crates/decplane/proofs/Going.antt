@@ -19,12 +19,12 @@ use Rattle.decplane.proofs.Reading.{behind, read-start, next-rest, next
 -- m blocks of n were read, from the bytes d and a on, and s is where reading stands
 pub record Going (shift n : ℕ) (dc ac : List ℕ) (d a m : ℕ) (s : Stand) : Type 0 where
   pub rest : readOn shift (n - m) dc ac s ≡ behind m (readPlane shift n dc ac d a)
-  pub ready : Ready dc ac s
+  pub ready : Ready dc s
   pub dc-near : s .dc .pos ≤ 8 * d + 112 * m
-  pub ac-near : s .ac .pos ≤ 8 * a + 7168 * m
+  pub ac-near : s .ac ≤ 8 * a + 7168 * m
 
 module _ (shift n : ℕ) (dc ac : List ℕ) (d a : ℕ) where
-  pub going-start : (s : Stand) → Ready dc ac s → s .dc .pos ≡ 8 * d → s .ac .pos ≡ 8 * a → s .pending ≡ 0 → s .last ≡ pos 0 → Going shift n dc ac d a 0 s
+  pub going-start : (s : Stand) → Ready dc s → s .dc .pos ≡ 8 * d → s .ac ≡ 8 * a → s .pending ≡ 0 → s .last ≡ pos 0 → Going shift n dc ac d a 0 s
   going-start s r ed ea ep el =
       let z : n - 0 ≡ n = omega arith in
       record { rest = rw z (read-start shift n dc ac d a s ed ea ep el); ready = r; dc-near = omega arith; ac-near = omega arith }
@@ -61,5 +61,5 @@ module _ (shift n : ℕ) (dc ac : List ℕ) (d a : ℕ) where
       next-at f m (readPlane shift n dc ac d a) (readOn shift (n - (m + 1)) dc ac (b .next)) (blockOf b) g (first-of m s b h i x)
 
   pub going-over : (m : ℕ) (s : Stand) → n ≤ m → Going shift n dc ac d a m s
-      → readPlane shift n dc ac d a ≡ planeRead (blocksGot (readPlane shift n dc ac d a)) (bytesFor (s .dc .pos)) (bytesFor (s .ac .pos))
+      → readPlane shift n dc ac d a ≡ planeRead (blocksGot (readPlane shift n dc ac d a)) (bytesFor (s .dc .pos)) (bytesFor (s .ac))
   going-over m s h i = read-over shift (n - m) m dc ac s (readPlane shift n dc ac d a) (omega arith) (i .rest)

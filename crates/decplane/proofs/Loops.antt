@@ -9,6 +9,7 @@ use lib.ListN.{length, getD, take, drop}
 use Rattle.ask.specs.Limits.{strideMax}
 use Rattle.bits.specs.Bits.{bytesFor}
 use Rattle.tables.specs.Zigzag.{zigzag}
+use Rattle.acpairs.specs.Pairs.{Looks}
 use Rattle.paint.specs.Paint.{storeBlock, sampleInBlock}
 use Rattle.calls.specs.Arguments.{Settings, Plane, plane, PerStream, Buffers}
 use Rattle.calls.specs.ReadPlane.{BlockRead}
@@ -63,7 +64,7 @@ module _ {σ : Settings} {p : Plane} {b : Buffers} {at : PerStream} where
   moved : {m n : ℕ} {s : Stand} {rows : List ℕ} → m ≡ n → Sofar σ p b at m s rows → Sofar σ p b at n s rows
   moved {m} {n} {s} {rows} e i = subst (λ (x : ℕ). Sofar σ p b at x s rows) e i
 
-  pub begun : (s : Stand) → Begun (b .dcBytes) (b .acBytes) at s → Behind σ p b at 0 0 s (p .samples)
+  pub begun : (s : Stand) → Begun (b .dcBytes) at s → Behind σ p b at 0 0 s (p .samples)
   begun s e =
       moved {m = 0} (omega arith)
       (record {
@@ -74,16 +75,16 @@ module _ {σ : Settings} {p : Plane} {b : Buffers} {at : PerStream} where
   pub as-long : {m : ℕ} {s : Stand} {rows : List ℕ} → Sofar σ p b at m s rows → length rows ≡ length (p .samples)
   as-long {m} i = ap length (i .painted) ∙ painted-length (p .stride) (sampleIn (σ .depth) (σ .preset) (p .place) (got σ p b at)) m (p .samples)
 
-  near : {m : ℕ} {s : Stand} {rows : List ℕ} → m ≤ 1920 → at .dc < 2 ^ 30 → at .ac < 2 ^ 30 → Sofar σ p b at m s rows → (s .dc .pos < 2 ^ 58) × (s .ac .pos < 2 ^ 58)
+  near : {m : ℕ} {s : Stand} {rows : List ℕ} → m ≤ 1920 → at .dc < 2 ^ 30 → at .ac < 2 ^ 30 → Sofar σ p b at m s rows → (s .dc .pos < 2 ^ 58) × (s .ac < 2 ^ 58)
   near h x y i = (omega (arith, i .going .dc-near), omega (arith, i .going .ac-near))
 
   -- what reading the next block asks
-  pub asks : (j k : ℕ) {s : Stand} {rows z : List ℕ} → PlaneGood σ p b at → j < 2 → k < columnsOf (p .stride) → z ≡ zigzag → Behind σ p b at j k s rows
-      → Ready (b .dcBytes) (b .acBytes) s × (s .dc .pos < 2 ^ 58) × (s .ac .pos < 2 ^ 58) × (σ .shift < 16) × (z ≡ zigzag) × (goodPlane (readOn (σ .shift) 1 (b .dcBytes) (b .acBytes) s) ≡ true)
-  asks j k {s} o hj hk e i =
+  pub asks : (j k : ℕ) {s : Stand} {rows z : List ℕ} (t : List ℕ) → PlaneGood σ p b at → j < 2 → k < columnsOf (p .stride) → z ≡ zigzag → Looks t → Behind σ p b at j k s rows
+      → Ready (b .dcBytes) s × (s .dc .pos < 2 ^ 58) × (s .ac < 2 ^ 58) × (σ .shift < 16) × (z ≡ zigzag) × Looks t × (goodPlane (readOn (σ .shift) 1 (b .dcBytes) (b .acBytes) s) ≡ true)
+  asks j k {s} t o hj hk e l i =
       let h = below (columnsOf (p .stride)) j k hj hk in
       let n = near (omega (arith, h, o .plane .stride-le)) (o .dc-start) (o .ac-start) i in
-      (i .going .ready, n .0, n .1, omega (arith, o .settings .shift-le), e, good-next (σ .shift) (blocksOf (p .stride)) (b .dcBytes) (b .acBytes) (at .dc) (at .ac) (inFront (columnsOf (p .stride)) j k) s (o .good) h (i .going))
+      (i .going .ready, n .0, n .1, omega (arith, o .settings .shift-le), e, l, good-next (σ .shift) (blocksOf (p .stride)) (b .dcBytes) (b .acBytes) (at .dc) (at .ac) (inFront (columnsOf (p .stride)) j k) s (o .good) h (i .going))
 
   -- its corner, with eight rows after it
   pub inside : (j k : ℕ) {s : Stand} {rows : List ℕ} {c : ℕ} → PlaneGood σ p b at → j < 2 → k < columnsOf (p .stride) → c ≡ 8 * j * p .stride + 8 * k
@@ -125,11 +126,11 @@ module _ {σ : Settings} {p : Plane} {b : Buffers} {at : PerStream} where
 
   -- all of them
   pub ended : (j : ℕ) {s : Stand} {rows : List ℕ} → PlaneGood σ p b at → j ≤ 2 → Behind σ p b at j 0 s rows
-      → (s .dc .pos < 2 ^ 58) × (s .ac .pos < 2 ^ 58)
+      → (s .dc .pos < 2 ^ 58) × (s .ac < 2 ^ 58)
   ended j o h i = near (omega (arith, mul-le-mul-right {m = j} {n = 2} (p .stride / 8) h, o .plane .stride-le)) (o .dc-start) (o .ac-start) i
 
   pub done : (j : ℕ) {s : Stand} {rows : List ℕ} {r : PerStream} → PlaneGood σ p b at → j ≡ 2 → Behind σ p b at j 0 s rows
-      → r .dc ≡ bytesFor (s .dc .pos) → r .ac ≡ bytesFor (s .ac .pos) → PlaneStored σ p b at r rows
+      → r .dc ≡ bytesFor (s .dc .pos) → r .ac ≡ bytesFor (s .ac) → PlaneStored σ p b at r rows
   done j {s} {rows} {r} o e i ed ea =
       let n = blocksOf (p .stride) in
       let f : Sofar σ p b at n s rows = moved (at-end (columnsOf (p .stride)) j e) i in

@@ -39,7 +39,7 @@ behind-none : (x : PlaneRead) → x ≡ behind 0 x
 behind-none badPlane = refl
 behind-none (planeRead bs qd qa) = refl
 
-pub read-start : (shift n : ℕ) (dc ac : List ℕ) (d a : ℕ) (s : Stand) → s .dc .pos ≡ 8 * d → s .ac .pos ≡ 8 * a → s .pending ≡ 0 → s .last ≡ pos 0
+pub read-start : (shift n : ℕ) (dc ac : List ℕ) (d a : ℕ) (s : Stand) → s .dc .pos ≡ 8 * d → s .ac ≡ 8 * a → s .pending ≡ 0 → s .last ≡ pos 0
     → readOn shift n dc ac s ≡ behind 0 (readPlane shift n dc ac d a)
 read-start shift n dc ac d a s ed ea ep el = sym (read-plane shift n dc ac d a s ed ea ep el) ∙ behind-none (readPlane shift n dc ac d a)
 
@@ -70,6 +70,6 @@ over-at (planeRead bs pd pa) m qd qa e =
     let g : pa ≡ qa = cc in
     cc
 
-pub read-over : (shift n m : ℕ) (dc ac : List ℕ) (s : Stand) (x : PlaneRead) → n ≡ 0 → readOn shift n dc ac s ≡ behind m x → x ≡ planeRead (blocksGot x) (bytesFor (s .dc .pos)) (bytesFor (s .ac .pos))
+pub read-over : (shift n m : ℕ) (dc ac : List ℕ) (s : Stand) (x : PlaneRead) → n ≡ 0 → readOn shift n dc ac s ≡ behind m x → x ≡ planeRead (blocksGot x) (bytesFor (s .dc .pos)) (bytesFor (s .ac))
 read-over shift n m dc ac s x z e =
-    over-at x m (bytesFor (s .dc .pos)) (bytesFor (s .ac .pos)) (sym (read-none shift dc ac s) ∙ ap (λ (k : ℕ). readOn shift k dc ac s) (sym z) ∙ e)
+    over-at x m (bytesFor (s .dc .pos)) (bytesFor (s .ac)) (sym (read-none shift dc ac s) ∙ ap (λ (k : ℕ). readOn shift k dc ac s) (sym z) ∙ e)

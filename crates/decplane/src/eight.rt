@@ -26,11 +26,12 @@ pub fn plane(
     let v = planes::lane8(place);
     let q = tables::decode_numbers(preset);
     let z = tables::zigzag_order();
+    let tab = acpairs::looks();
     let cols = stride / 8;
-    let mut stand = blockread::begin(dc, ac, at);
+    let mut stand = blockread::begin(dc, at);
     for j in 0..2 {
         for k in 0..cols {
-            let g = blockread::eight::next_block(dc, ac, stand, shift, &z);
+            let g = blockread::eight::next_block(dc, ac, stand, shift, &z, &tab);
             let c = planes::corner(stride, j, k);
             let nat = g.nat;
             let flat = g.flat;

@@ -26,11 +26,12 @@ pub fn plane(
     let v = planes::lane10(place);
     let q = tables::decode_numbers(preset);
     let z = tables::zigzag_order();
+    let tab = acpairs::looks();
     let cols = stride / 8;
-    let mut stand = blockread::begin(dc, ac, at);
+    let mut stand = blockread::begin(dc, at);
     for j in 0..2 {
         for k in 0..cols {
-            let g = blockread::ten::next_block(dc, ac, stand, shift, &z);
+            let g = blockread::ten::next_block(dc, ac, stand, shift, &z, &tab);
             let c = planes::corner(stride, j, k);
             let nat = g.nat;
             write_block::ten::paint(&mut rows[c..], stride, nat, &q, v);

@@ -13,26 +13,26 @@ use Rattle.decplane.proofs.ten.plane.Statement.{statement}
 use Rattle.decplane.proofs.ten.plane.Tie as tie
 
 abbrev Inv-loop2 : tie.InvT-loop2
-Inv-loop2 rows₀ dc ac place stride preset shift v q z cols stand₀ j k₀ rows stand k = (k ≤ cols) × Row (settings ten preset shift) place stride (buffers dc ac) j stand₀ rows₀ k stand rows
+Inv-loop2 rows₀ dc ac place stride preset shift v q z tab cols stand₀ j k₀ rows stand k = (k ≤ cols) × Row (settings ten preset shift) place stride (buffers dc ac) j stand₀ rows₀ k stand rows
 
 abbrev μ-loop2 : tie.MeasureT-loop2
-μ-loop2 rows₀ dc ac place stride preset shift v q z cols stand₀ j k₀ rows stand k = cols - k
+μ-loop2 rows₀ dc ac place stride preset shift v q z tab cols stand₀ j k₀ rows stand k = cols - k
 
 abbrev Inv-loop : tie.InvT-loop
-Inv-loop rows₀ dc ac place stride preset shift v q z cols stand₀ j₀ rows stand j = (j ≤ 2) × Rows (settings ten preset shift) (plane place stride rows₀) (buffers dc ac) stand₀ j stand rows
+Inv-loop rows₀ dc ac place stride preset shift v q z tab cols stand₀ j₀ rows stand j = (j ≤ 2) × Rows (settings ten preset shift) (plane place stride rows₀) (buffers dc ac) stand₀ j stand rows
 
 abbrev μ-loop : tie.MeasureT-loop
-μ-loop rows₀ dc ac place stride preset shift v q z cols stand₀ j₀ rows stand j = 2 - j
+μ-loop rows₀ dc ac place stride preset shift v q z tab cols stand₀ j₀ rows stand j = 2 - j
 
 abbrev start : tie.After-begin Inv-loop2 μ-loop2 Inv-loop μ-loop → tie.Start Inv-loop2 μ-loop2 Inv-loop μ-loop
-start c = c .before .before .before .before .before .before .before
+start c = c .before .before .before .before .before .before .before .before
 
 -- from a turn's end to its painting, and to its start
 abbrev painting : tie.After-next Inv-loop2 μ-loop2 Inv-loop μ-loop → tie.After-paint Inv-loop2 μ-loop2 Inv-loop μ-loop
 painting c = c .before .before .before
 
 abbrev turn : tie.After-paint Inv-loop2 μ-loop2 Inv-loop μ-loop → tie.In-loop2 Inv-loop2 μ-loop2 Inv-loop μ-loop
-turn w = w .before .before .before .before .before .before .before
+turn w = w .before .before .before .before .before .before .before .before
 
 -- the blocks so far in a turn of the outer loop
 behind : (l : tie.At-loop Inv-loop2 μ-loop2 Inv-loop μ-loop) → let a = start (l .before) .args in
@@ -48,7 +48,7 @@ decode-numbers-requires : tie.Need-decode-numbers-requires Inv-loop2 μ-loop2 In
 decode-numbers-requires c κs = let s = c .before .before .before .before in omega (arith, s .pre .settings .preset-le)
 
 begin-requires : tie.Need-begin-requires Inv-loop2 μ-loop2 Inv-loop μ-loop
-begin-requires c κs = let s = c .before .before .before .before .before .before in (omega (arith, s .pre .dc-start, s .pre .ac-start), omega (arith, s .pre .dc-start, s .pre .ac-start))
+begin-requires c κs = let s = c .before .before .before .before .before .before .before in (omega (arith, s .pre .dc-start, s .pre .ac-start), omega (arith, s .pre .dc-start, s .pre .ac-start))
 
 loop-holds : tie.Need-loop-holds Inv-loop2 μ-loop2 Inv-loop μ-loop
 loop-holds c = (omega arith, λ at o b. b)
@@ -58,23 +58,23 @@ loop2-holds c = (omega arith, λ at l o b. b)
 
 next-block-requires : tie.Need-next-block-requires Inv-loop2 μ-loop2 Inv-loop μ-loop
 next-block-requires c κs =
-    let i2 = c .before in
+    let i2 = c .before .before in
     let l2 = i2 .before in
     let l = l2 .before .before in
-    asks (l .loop .j) (l2 .loop2 .k) (start (l .before) .pre) (l2 .before .loop-test .taken) (i2 .loop2-test .taken) (l .before .before .zigzag-order .ensures) (sofar i2)
+    asks (l .loop .j) (l2 .loop2 .k) (l .before .before .looks .result) (start (l .before) .pre) (l2 .before .loop-test .taken) (i2 .loop2-test .taken) (l .before .before .before .zigzag-order .ensures) (l .before .before .looks .ensures) (sofar i2)
 
 corner-requires : tie.Need-corner-requires Inv-loop2 μ-loop2 Inv-loop μ-loop
 corner-requires c κs =
-    let i2 = c .before .before in
+    let i2 = c .before .before .before in
     let l2 = i2 .before in
     let s = start (l2 .before .before .before) in
     (omega (arith, l2 .before .loop-test .taken), s .pre .plane .stride-le, omega (arith, i2 .loop2-test .taken, s .pre .plane .stride-le))
 
 -- the block lies in the rows
-there : (k : tie.After-corner Inv-loop2 μ-loop2 Inv-loop μ-loop) → let l2 = k .before .before .before .before in let s = start (l2 .before .before .before) in
+there : (k : tie.After-corner Inv-loop2 μ-loop2 Inv-loop μ-loop) → let l2 = k .before .before .before .before .before in let s = start (l2 .before .before .before) in
     k .corner .result + (7 * s .args .h .stride + 8) ≤ length (l2 .loop2 .rows)
 there k =
-    let i2 = k .before .before .before in
+    let i2 = k .before .before .before .before in
     let l2 = i2 .before in
     let l = l2 .before .before in
     inside (l .loop .j) (l2 .loop2 .k) (start (l .before) .pre) (l2 .before .loop-test .taken) (i2 .loop2-test .taken) (k .corner .ensures) (sofar i2)
@@ -82,7 +82,7 @@ there k =
 mul-paint : tie.Need-mul-paint Inv-loop2 μ-loop2 Inv-loop μ-loop
 mul-paint c =
     let k = c .before in
-    let i2 = k .before .before .before in
+    let i2 = k .before .before .before .before in
     let l2 = i2 .before in
     let l = l2 .before .before in
     omega (arith, corner-small (l .loop .j) (l2 .loop2 .k) (start (l .before) .pre) (l2 .before .loop-test .taken) (i2 .loop2-test .taken) (k .corner .ensures))
@@ -90,7 +90,7 @@ mul-paint c =
 paint-requires : tie.Need-paint-requires Inv-loop2 μ-loop2 Inv-loop μ-loop
 paint-requires c κs =
     let k = c .before .before .before in
-    let i2 = k .before .before .before in
+    let i2 = k .before .before .before .before in
     let l2 = i2 .before in
     let l = l2 .before .before in
     room (l .loop .j) (l2 .loop2 .k) (start (l .before) .pre) (l2 .before .loop-test .taken) (i2 .loop2-test .taken) (k .corner .ensures) (sofar i2)
@@ -110,15 +110,15 @@ loop2-again c =
     let w = painting c in
     let k = w .before .before .before .before in
     let g = k .before in
-    let i2 = g .before .before in
+    let i2 = g .before .before .before in
     let l2 = i2 .before in
     let l = l2 .before .before in
     let a = start (l .before) .args in
-    let v = l .before .before .before .before .lane10 in (
+    let v = l .before .before .before .before .before .lane10 in (
       omega (arith, i2 .loop2-test .taken),
       λ at r o x.
           next (l .loop .j) (l2 .loop2 .k) (g .next-block .result) (l2 .loop2 .rows) o (l2 .before .loop-test .taken) (i2 .loop2-test .taken) (g .next-block .ensures) (k .corner .ensures)
-          (w .paint .ensures (not (g .next-block .result .flat)) (a .s .preset) (a .h .place) (l .before .before .before .decode-numbers .ensures) (toZ-ofZ (sfits-of (v .ok)) ∙ v .ensures)) (l2 .loop2 .inv .1 at r o x),
+          (w .paint .ensures (not (g .next-block .result .flat)) (a .s .preset) (a .h .place) (l .before .before .before .before .decode-numbers .ensures) (toZ-ofZ (sfits-of (v .ok)) ∙ v .ensures)) (l2 .loop2 .inv .1 at r o x),
     )
 
 add-j : tie.Need-add-j Inv-loop2 μ-loop2 Inv-loop μ-loop
@@ -160,6 +160,7 @@ plane-spec =
     μ-loop
     (λ c κs. search needs)
     decode-numbers-requires
+    (λ c κs. search needs)
     (λ c κs. search needs)
     begin-requires
     loop-holds
