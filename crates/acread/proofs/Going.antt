@@ -1,28 +1,23 @@
 -- The loop over a block's symbols: what is still to be read from here ends where the whole block ends.
-use mathlib.Core.Path.{_≡_, refl, sym, ap, _∙_}
+use mathlib.Core.Path.{_≡_, sym, ap, _∙_}
 use mathlib.Core.List.{List}
-use Prim.Native.Nat.{ℕ, zero, suc, _+_, _-_, _*_, _^_, _≤_, _<_}
+use Prim.Native.Nat.{ℕ, zero, suc, _+_, _-_, _^_, _≤_, _<_}
 use native.Mathlib.Omega.{arith}
 use Rattle.bits.specs.Bits.{bitAt}
 use Rattle.bitreader.specs.Cursor.{At, NextSymbol}
 use Rattle.bitreader.specs.declared.AcCursor.{AcCursor}
 use Rattle.bitreader.specs.declared.Got.{Got}
 use Rattle.calls.specs.ReadPlane.{readPlaces}
-use Rattle.acread.specs.Block.{spanOf, endsOf, BlockEnded, ends, badEnds, blockSays, AcReady}
-use Rattle.acread.specs.declared.BlockEnd.{BlockEnd}
+use Rattle.acread.specs.Block.{spanOf, endsOf, BlockEnded}
+use Rattle.acread.specs.Going.{Going}
 use Rattle.acread.specs.declared.BlockEnd.the-variants as end
 use Rattle.acread.proofs.Turn.{start, turn, stop, over}
 
--- the cursor c stands at a place of the block at p, after whose first zeros r come
-pub record Going (s : List ℕ) (p r : ℕ) (c : AcCursor) (place : ℕ) : Type 0 where
-  pub same : endsOf (readPlaces 64 (bitAt s) p r) ≡ endsOf (readPlaces (64 - place) (bitAt s) (c .pos) (place - 64))
-  pub holds : At s c
-  pub step : c .pos ≤ p + 112 * place
-  pub near : c .pos ≤ p + 7168
-  pub few : place < 2 ^ 57
-
 pub going-start : (s : List ℕ) (c : AcCursor) (r : ℕ) → At s c → r < 2 ^ 57 → Going s (c .pos) r c r
 going-start s c r a f = record { same = start (bitAt s) (c .pos) r; holds = a; step = omega arith; near = omega arith; few = f }
+
+pub going-same : {s : List ℕ} {p r : ℕ} {c c′ : AcCursor} {place place′ : ℕ} → c′ ≡ c → place′ ≡ place → Going s p r c place → Going s p r c′ place′
+going-same e f i = rw (e, f) i
 
 span-few : (h n : ℕ) → 0 < n → n < 2 ^ 56 → (0 < spanOf h n) × (spanOf h n < 2 ^ 56)
 span-few zero n z f = (omega arith, omega arith)
@@ -60,3 +55,7 @@ going-over s p r c place i b =
           let y : place - 64 ≡ m = cc in
           rw (← x, ← y) (record { holds = i .holds; near = i .near; few = omega (arith, i .few) });
     }
+
+-- a block that the zeros still to come fill
+pub flat-ended : (s : List ℕ) (c : AcCursor) (r : ℕ) → At s c → r < 2 ^ 57 → 64 ≤ r → BlockEnded s (c .pos) r (end.At c (r - 64))
+flat-ended s c r a f b = going-over s (c .pos) r c r (going-start s c r a f) b

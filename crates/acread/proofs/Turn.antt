@@ -50,14 +50,21 @@ module _ (s : Stream) where
   at-place place p b = same (64 - place) (suc (63 - place)) p (place - 64) 0 (omega arith) (omega arith)
 
   -- one symbol
+  pub value-turn : (place p c q : ℕ) → place < 64 → value c q ≡ readSymbol s p → E (64 - place) p (place - 64) ≡ E (64 - (place + 1)) q (place + 1 - 64)
+  value-turn place p c q b e =
+      at-place place p b ∙ value-ends (63 - place) p c q e ∙ same (63 - place) (64 - (place + 1)) q 0 (place + 1 - 64) (omega arith) (omega arith)
+
+  pub run-turn : (place p n q : ℕ) → place < 64 → 0 < n → run n q ≡ readSymbol s p → E (64 - place) p (place - 64) ≡ E (64 - (place + n)) q (place + n - 64)
+  run-turn place p zero q b z e = absurd (omega arith)
+  run-turn place p (suc n) q b z e =
+      at-place place p b ∙ run-ends (63 - place) p n q e ∙ zeros-ends (suc (63 - place)) q (suc n)
+      ∙ same (suc (63 - place) - suc n) (64 - (place + suc n)) q (suc n - suc (63 - place)) (place + suc n - 64) (omega arith) (omega arith)
+
   pub turn : (place p n h q : ℕ) → place < 64 → 0 < n → symbolBy n h q ≡ readSymbol s p
       → E (64 - place) p (place - 64) ≡ E (64 - (place + spanOf h n)) q (place + spanOf h n - 64)
   turn place p zero h q b z e = absurd (omega arith)
-  turn place p (suc n) zero q b z e =
-      at-place place p b ∙ value-ends (63 - place) p (suc n) q e ∙ same (63 - place) (64 - (place + 1)) q 0 (place + 1 - 64) (omega arith) (omega arith)
-  turn place p (suc n) (suc h) q b z e =
-      at-place place p b ∙ run-ends (63 - place) p n q e ∙ zeros-ends (suc (63 - place)) q (suc n)
-      ∙ same (suc (63 - place) - suc n) (64 - (place + suc n)) q (suc n - suc (63 - place)) (place + suc n - 64) (omega arith) (omega arith)
+  turn place p (suc n) zero q b z e = value-turn place p (suc n) q b e
+  turn place p (suc n) (suc h) q b z e = run-turn place p (suc n) q b z e
 
   -- a bad code
   pub stop : (place p n h q : ℕ) → place < 64 → n ≡ 0 → symbolBy n h q ≡ readSymbol s p → E (64 - place) p (place - 64) ≡ badEnds

@@ -7,6 +7,7 @@ ghost use Rattle.calls.specs.ReadPlane.{readSteps, readBlocks};
 ghost use Rattle.acread.specs.through.Codes.{goodSteps, dcEnd};
 ghost use Rattle.acread.specs.through.Through.{blockEnds, goodEnds, acEnd, endSays};
 use crate::BlockEnd;
+use acpairs::LOOK;
 use ask::numbers::NO_CODE;
 
 // Where a plane ends: the byte after its stream, or the number of a refusal.
@@ -44,12 +45,13 @@ pub fn through_ac(ac: &[u8], at: usize, columns: usize) -> PlaneEnd
     requires { ⌜ (at < 2 ^ 31) × (columns ≤ 960) ⌝ }
     ensures { λ r. ⌜ endSays r ≡ acEnd (readBlocks (2 * columns) (bitAt (now (ac .entry))) (8 * at) 0) ⌝ }
 {
+    let tab = acpairs::looks();
     let mut c = bitreader::cursor(ac, 8 * at);
     let mut pending: u64 = 0;
     let mut number: u32 = 0;
     'rows: for j in 0usize..2 {
         for k in 0..columns {
-            match crate::skip_block(ac, c, pending) {
+            match crate::skip_block(ac, c, pending, LOOK, &tab) {
                 BlockEnd::At(d, n) => {
                     c = d;
                     pending = n;

@@ -8,6 +8,7 @@ use mathlib.Core.Path.{_≡_, refl, ap, _∙_}
 use mathlib.Core.Logic.{⊎-elim}
 use native.Mathlib.Omega.{arith}
 use borrow.Author.Needs.{needs}
+use lib.ListN.{length}
 use Rattle.acread.proofs.Rows.{row-first, row-next, row-last, rows-over}
 use Rattle.acread.proofs.through.Blocks.{end-bad, end-at}
 use Rattle.acread.proofs.through.Going.{Going, going-start, going-left, going-next, going-bad, going-over}
@@ -16,16 +17,19 @@ use Rattle.acread.specs.declared.BlockEnd.the-variants as block
 use Rattle.acread.proofs.through.through_ac.Tie as tie
 
 abbrev Inv-loop : tie.InvT-loop
-Inv-loop ac at columns c₀ pending₀ number₀ j k₀ c pending number k = (k ≤ columns) × (number ≡ 0) × Going ac (8 * at) (2 * columns) c pending (columns - k + (2 - (j + 1)) * columns)
+Inv-loop ac at columns tab c₀ pending₀ number₀ j k₀ c pending number k = (k ≤ columns) × (number ≡ 0) × Going ac (8 * at) (2 * columns) c pending (columns - k + (2 - (j + 1)) * columns)
 
 abbrev μ-loop : tie.MeasureT-loop
-μ-loop ac at columns c₀ pending₀ number₀ j k₀ c pending number k = columns - k
+μ-loop ac at columns tab c₀ pending₀ number₀ j k₀ c pending number k = columns - k
 
 abbrev Inv-rows : tie.InvT-rows
-Inv-rows ac at columns c₀ pending₀ number₀ j₀ c pending number j = (j ≤ 2) × (number ≡ 0) × Going ac (8 * at) (2 * columns) c pending ((2 - j) * columns)
+Inv-rows ac at columns tab c₀ pending₀ number₀ j₀ c pending number j = (j ≤ 2) × (number ≡ 0) × Going ac (8 * at) (2 * columns) c pending ((2 - j) * columns)
 
 abbrev μ-rows : tie.MeasureT-rows
-μ-rows ac at columns c₀ pending₀ number₀ j₀ c pending number j = 2 - j
+μ-rows ac at columns tab c₀ pending₀ number₀ j₀ c pending number j = 2 - j
+
+looks-requires : tie.Need-looks-requires Inv-loop μ-loop Inv-rows μ-rows
+looks-requires c κs = tt
 
 mul-cursor : tie.Need-mul-cursor Inv-loop μ-loop Inv-rows μ-rows
 mul-cursor c = omega arith
@@ -35,20 +39,25 @@ cursor-requires c κs = omega arith
 
 rows-holds : tie.Need-rows-holds Inv-loop μ-loop Inv-rows μ-rows
 rows-holds c =
-    let a = c .before .before .args in
+    let a = c .before .before .before .args in
     let r = c .cursor in
     (omega arith, refl, going-start (a .ac .now) (8 * a .at) (2 * a .columns) (r .result) (r .ensures .0) (r .ensures .1))
 
 loop-holds : tie.Need-loop-holds Inv-loop μ-loop Inv-rows μ-rows
 loop-holds c =
-    let a = c .before .before .before .before .args in
+    let a = c .before .before .before .before .before .args in
     let i = c .before .rows .inv in
     (omega arith, i .1, going-left _ (row-first (c .before .rows .j) (a .columns) (omega arith)) (i .2))
 
+slice-aggregate-skip-block : tie.Need-slice-aggregate-skip-block Inv-loop μ-loop Inv-rows μ-rows
+slice-aggregate-skip-block c = search needs
+
 skip-block-requires : tie.Need-skip-block-requires Inv-loop μ-loop Inv-rows μ-rows
 skip-block-requires c κs =
-    let i = c .before .loop .inv in
-    (i .2 .holds, omega (arith, i .2 .near), i .2 .few)
+    let i = c .before .before .loop .inv in
+    let t = c .before .before .before .before .before .before .looks in
+    let all : length (t .result) ≡ 1024 = search needs in
+    (i .2 .holds, omega (arith, i .2 .near), i .2 .few, (omega arith, λ _. (omega (arith, all), t .ensures)))
 
 enum-known-d : tie.Need-enum-known-d Inv-loop μ-loop Inv-rows μ-rows
 enum-known-d c = search needs
@@ -64,9 +73,9 @@ loop-less c = omega arith
 
 loop-again : tie.Need-loop-again Inv-loop μ-loop Inv-rows μ-rows
 loop-again c =
-    let a = c .before .before .before .before .before .before .before .before .before .before .args in
-    let j = c .before .before .before .before .before .before .before .rows .j in
-    let l = c .before .before .before .before .before .loop in
+    let a = c .before .before .before .before .before .before .before .before .before .before .before .before .args in
+    let j = c .before .before .before .before .before .before .before .before .rows .j in
+    let l = c .before .before .before .before .before .before .loop in
     let b = c .before .before .before .skip-block in
     let d = c .before .d .given in
     let m = a .columns - (l .k + 1) + (2 - (j + 1)) * a .columns in
@@ -85,7 +94,7 @@ rows-less c = omega arith
 
 rows-again : tie.Need-rows-again Inv-loop μ-loop Inv-rows μ-rows
 rows-again c =
-    let a = c .before .before .before .before .before .before .args in
+    let a = c .before .before .before .before .before .before .before .args in
     let i = c .before .loop .inv in
     (omega arith, i .1, going-left _ (row-last (c .before .before .before .rows .j) (c .before .loop .k) (a .columns) (omega arith)) (i .2))
 
@@ -96,21 +105,21 @@ end-byte-requires c κs =
 
 returns : tie.Need-returns Inv-loop μ-loop Inv-rows μ-rows
 returns c =
-    let a = c .before .before .before .before .before .args in
+    let a = c .before .before .before .before .before .before .args in
     let j = c .before .before .rows .j in
     ⊎-elim (λ w. absurd (omega arith))
     (λ w.
     let l = w .1 in
     let m = a .columns - (l .k + 1) + (2 - (j + 1)) * a .columns in
-    let f : w .3 .result ≡ block.Bad = cc in
-    ap refused (w .8)
+    let f : w .4 .result ≡ block.Bad = cc in
+    ap refused (w .9)
     ∙ end-bad (readBlocks (2 * a .columns) (bitAt (a .ac .now)) (8 * a .at) 0)
-    (going-bad (a .ac .now) (8 * a .at) (2 * a .columns) (l .c) (l .pending) m (going-left (suc m) (row-next j (l .k) (a .columns) (omega arith)) (l .inv .2)) (w .3 .result) (w .3 .ensures) f))
+    (going-bad (a .ac .now) (8 * a .at) (2 * a .columns) (l .c) (l .pending) m (going-left (suc m) (row-next j (l .k) (a .columns) (omega arith)) (l .inv .2)) (w .4 .result) (w .4 .ensures) f))
     (c .before .rows-test .came)
 
 returns-2 : tie.Need-returns-2 Inv-loop μ-loop Inv-rows μ-rows
 returns-2 c =
-    let a = c .before .before .before .before .before .before .args in
+    let a = c .before .before .before .before .before .before .before .args in
     let r = c .before .before .before .rows in
     ⊎-elim
     (λ w.
@@ -127,10 +136,12 @@ through-ac-spec =
     μ-loop
     Inv-rows
     μ-rows
+    looks-requires
     mul-cursor
     cursor-requires
     rows-holds
     loop-holds
+    slice-aggregate-skip-block
     skip-block-requires
     enum-known-d
     enum-told
