@@ -9,14 +9,14 @@ ghost use Rattle.acread.specs.Going.{LooksFrom, Onward};
 use bitreader::AcCursor;
 
 // Where a block's places end: the cursor after the last code, and the zeros of its run that are still to come.
-#[derive(Drop)]
+#[derive(Clone, Copy)]
 pub enum BlockEnd {
     At(AcCursor, u64),
     Bad,
 }
 
 // Within a block: the cursor, and the place that the next symbol is for.
-#[derive(Drop)]
+#[derive(Clone, Copy)]
 pub struct Stop {
     pub c: AcCursor,
     pub place: u64,

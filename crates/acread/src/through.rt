@@ -11,7 +11,7 @@ use acpairs::LOOK;
 use ask::numbers::NO_CODE;
 
 // Where a plane ends: the byte after its stream, or the number of a refusal.
-#[derive(Drop)]
+#[derive(Clone, Copy)]
 pub enum PlaneEnd {
     At(usize),
     Refused(u32),

@@ -11,7 +11,7 @@ ghost use Rattle.bitreader.specs.words.Word.{number_of};
 ghost use Rattle.bitreader.specs.Cursor.{At, symbol_of, NextSymbol, NextDc, Looked, Long, Seen, dc_code_of};
 
 // A place in a stream, with the next bits at the top of a word.
-#[derive(Drop)]
+#[derive(Clone, Copy)]
 pub struct AcCursor {
     pub pos: usize,
     pub bits: u64,
@@ -19,7 +19,7 @@ pub struct AcCursor {
 }
 
 // What was read: the head bit (1: a run, or a zero step), the number (0: a bad code), and the cursor after it.
-#[derive(Drop)]
+#[derive(Clone, Copy)]
 pub struct Got {
     pub run: u64,
     pub num: u64,

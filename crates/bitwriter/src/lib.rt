@@ -9,7 +9,7 @@ ghost use Rattle.bits.specs.Lay.{lay};
 ghost use Rattle.bitwriter.specs.Put.{Room, LastRoom, Put, flushed};
 ghost use Rattle.bitwriter.specs.Pairs.{pair_code};
 
-#[derive(Drop)]
+#[derive(Clone, Copy)]
 pub struct BitAcc {
     // The bits that wait, in the low end.
     pub acc: u64,
@@ -69,7 +69,7 @@ pub fn put_run(a: BitAcc, n: u32, out: &mut [u8]) -> BitAcc
 }
 
 // A run code and the value code after it as one number, and how many bits they are.
-#[derive(Drop)]
+#[derive(Clone, Copy)]
 pub struct PairCode {
     pub bits: u64,
     pub length: u32,

@@ -15,7 +15,7 @@ use calls::Positions;
 
 // Between two blocks: where each stream is read next, the zeros of a run that are still to come, the AC bits that the block before
 // took (nothing read depends on them), its DC.
-#[derive(Drop)]
+#[derive(Clone, Copy)]
 pub struct Stand {
     pub dc: AcCursor,
     pub ac: usize,
@@ -25,7 +25,7 @@ pub struct Stand {
 }
 
 // A block: its 64 coefficients in natural order, whether no AC symbol was read for it, and what follows.
-#[derive(Drop)]
+#[derive(Clone, Copy)]
 pub struct BlockGot {
     pub next: Stand,
     pub flat: bool,

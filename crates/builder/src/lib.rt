@@ -15,7 +15,7 @@ ghost use Rattle.builder.specs.Views.{shift_says, builder_says, HeaderCall};
 use ask::numbers::{NO_ROOM, NO_SHIFT, NO_SIZE};
 
 // The DC shift that a frame's header names.
-#[derive(Drop)]
+#[derive(Clone, Copy)]
 pub enum Shift {
     // none named: 0 is written
     Default,
@@ -23,7 +23,7 @@ pub enum Shift {
 }
 
 // Whose turn it is, and where the next byte goes.
-#[derive(Drop)]
+#[derive(Clone, Copy)]
 pub struct Builder {
     // whether the AC streams have their turn
     ac_turn: bool,
@@ -60,7 +60,7 @@ impl Builder {
     }
 }
 
-#[derive(Drop)]
+#[derive(Clone, Copy)]
 pub enum HeaderAnswer {
     Started(Builder),
     Refused(u32),

@@ -18,13 +18,13 @@ use crate::Builder;
 use ask::numbers::{NO_LIMIT, NO_ROOM, NO_SIZE, NO_TURN};
 use layout::Kind;
 
-#[derive(Drop)]
+#[derive(Clone, Copy)]
 pub enum StreamAnswer {
     Next(Builder),
     Refused(u32, Builder),
 }
 
-#[derive(Drop)]
+#[derive(Clone, Copy)]
 pub enum CompleteAnswer {
     Complete(bool),
     Refused(u32),

@@ -9,7 +9,7 @@ ghost use Rattle.bitwriter.specs.Put.{Room, Put};
 use bitwriter::BitAcc;
 
 // A writer of the AC stream, and how many zeros wait to be coded as a run.
-#[derive(Drop)]
+#[derive(Clone, Copy)]
 pub struct AcState {
     pub a: BitAcc,
     pub run: u32,

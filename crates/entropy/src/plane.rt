@@ -7,7 +7,7 @@ use bitwriter::BitAcc;
 use calls::Positions;
 
 // Both writers, the zeros that wait to be coded as a run, and the coded DC of the block before.
-#[derive(Drop)]
+#[derive(Clone, Copy)]
 pub struct PlaneState {
     pub dc: BitAcc,
     pub ac: BitAcc,

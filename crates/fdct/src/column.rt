@@ -20,7 +20,7 @@ pub const FDCT_TAN3: i16 = -21746;
 pub const FDCT_SQRT2: i16 = 23170;
 
 // What the first steps make of eight rows: sums for the even rows, differences of opposite rows for the odd ones.
-#[derive(Drop)]
+#[derive(Clone, Copy)]
 pub struct SideRows {
     pub tp03: [i16; 8],
     pub tp12: [i16; 8],
@@ -32,7 +32,7 @@ pub struct SideRows {
     pub d3: [i16; 8],
 }
 
-#[derive(Drop)]
+#[derive(Clone, Copy)]
 pub struct EvenRows {
     pub c0: [i16; 8],
     pub c2: [i16; 8],
@@ -40,7 +40,7 @@ pub struct EvenRows {
     pub c6: [i16; 8],
 }
 
-#[derive(Drop)]
+#[derive(Clone, Copy)]
 pub struct OddRows {
     pub c1: [i16; 8],
     pub c3: [i16; 8],

@@ -7,14 +7,14 @@ use lanes::sums::{adds, subs};
 use shuffles::{shuffle32_16, shufflehi};
 
 // Of a row, the sums of opposite lanes, twice, and their differences, twice.
-#[derive(Drop)]
+#[derive(Clone, Copy)]
 pub struct RowSides {
     pub sums: [i16; 8],
     pub diffs: [i16; 8],
 }
 
 // The same of each row of a block.
-#[derive(Drop)]
+#[derive(Clone, Copy)]
 pub struct SideBlocks {
     pub sums: [i16; 64],
     pub diffs: [i16; 64],

@@ -9,7 +9,7 @@ use lanes::rows::{put, row};
 use shuffles::shufflehi;
 
 // Four rows, between two stages of the columns.
-#[derive(Drop)]
+#[derive(Clone, Copy)]
 pub struct Four {
     pub r0: [i16; 8],
     pub r1: [i16; 8],

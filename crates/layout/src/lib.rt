@@ -15,7 +15,7 @@ const DC_PER_SAMPLE: usize = 32;
 const AC_PER_SAMPLE: usize = 56;
 
 // The geometry of one frame size: strides in samples, stream limits in bytes.
-#[derive(Drop)]
+#[derive(Clone, Copy)]
 pub struct Layout {
     pub width: usize,
     pub height: usize,
@@ -29,7 +29,7 @@ pub struct Layout {
     pub max_ac_len: usize,
 }
 
-#[derive(Drop)]
+#[derive(Clone, Copy)]
 pub enum LayoutAnswer {
     Fits(Layout),
     Refused(u32),
@@ -146,7 +146,7 @@ pub fn interlace_capable(height: usize) -> bool
     }
 }
 
-#[derive(Drop)]
+#[derive(Clone, Copy)]
 pub enum RowAnswer {
     Row(usize),
     Padding,
@@ -195,7 +195,7 @@ pub fn preview_height(height: usize, interlaced: bool) -> usize
 }
 
 // The streams of a slice: its DC stream or its AC stream.
-#[derive(Drop)]
+#[derive(Clone, Copy)]
 pub enum Kind {
     Dc,
     Ac,

@@ -11,7 +11,7 @@ ghost use Rattle.parser.specs.head.Views.{header_says};
 use ask::numbers::{NO_BYTES, NO_COUNT, NO_FORMAT, NO_SHIFT, NO_SIZE};
 
 // What is read of a frame's header, and whether AC streams follow.
-#[derive(Drop)]
+#[derive(Clone, Copy)]
 pub struct Header {
     pub interlaced: bool,
     pub quality: u8,

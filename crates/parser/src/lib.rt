@@ -18,14 +18,14 @@ use crate::streams::Place;
 use ask::numbers::NO_TURN;
 use layout::Kind;
 
-#[derive(Drop)]
+#[derive(Clone, Copy)]
 pub enum FrameAnswer {
     Frame(Header),
     Refused(u32),
 }
 
 // Where a stream lies in the caller's frame, and its length.
-#[derive(Drop)]
+#[derive(Clone, Copy)]
 pub enum ViewAnswer {
     Part(usize, usize),
     Refused(u32),

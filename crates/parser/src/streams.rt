@@ -21,7 +21,7 @@ fn length_at(f: &[u8], p: usize) -> usize
 }
 
 // A place in the frame, or a refusal.
-#[derive(Drop)]
+#[derive(Clone, Copy)]
 pub enum Place {
     At(usize),
     Refused(u32),

@@ -10,7 +10,7 @@ ghost use Rattle.acread.specs.through.Codes.{good_steps};
 use bitreader::AcCursor;
 
 // What a row of blocks leaves: the cursor after its last code, and its last DC.
-#[derive(Drop)]
+#[derive(Clone, Copy)]
 pub struct RowEnd {
     pub c: AcCursor,
     pub last: i16,

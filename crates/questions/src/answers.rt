@@ -2,7 +2,7 @@
 use calls::Positions;
 
 // Of a coding call.
-#[derive(Drop)]
+#[derive(Clone, Copy)]
 pub enum CodeAnswer {
     // The number of the first "no", and the positions of both streams as they were given.
     Refused(u32, Positions),
@@ -11,7 +11,7 @@ pub enum CodeAnswer {
 }
 
 // Of a reading call.
-#[derive(Drop)]
+#[derive(Clone, Copy)]
 pub enum ReadAnswer {
     // The number of the first "no", 8 for a bad code, and the positions of both streams as they were given.
     Refused(u32, Positions),
@@ -20,7 +20,7 @@ pub enum ReadAnswer {
 }
 
 // Of a size call.
-#[derive(Drop)]
+#[derive(Clone, Copy)]
 pub enum SizeAnswer {
     // The number of the first "no".
     Refused(u32),

@@ -252,7 +252,7 @@ fn four_sizes(b: &[u8], at: usize) -> [usize; 4]
 
 // The arguments of a call on planes: preset, shift, the plane's place or how many planes, where the streams begin;
 // strides, where each plane's samples begin, how many it has.
-#[derive(Drop)]
+#[derive(Clone, Copy)]
 pub struct Asked {
     pub preset: usize,
     pub shift: u32,

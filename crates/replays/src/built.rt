@@ -80,7 +80,7 @@ fn completes(b: &Record, k: usize, ac_turn: bool, next: usize) -> bool {
 }
 
 // The answer to the k-th stream: whether it is the record's, and the state after it.
-#[derive(Drop)]
+#[derive(Clone, Copy)]
 struct Handed {
     same: bool,
     state: Builder,

@@ -15,7 +15,7 @@ mod reads;
 
 use replay::Record;
 
-#[derive(Drop)]
+#[derive(Clone, Copy)]
 enum Part {
     Bits,
     Built,

@@ -3,7 +3,7 @@ ghost use Rattle.std.specs.Prelude.{◌≡◌};
 ghost use Rattle.tables.specs.Quality.{quality_preset};
 
 // The quality that is in force, and its preset.
-#[derive(Drop)]
+#[derive(Clone, Copy)]
 pub struct Preset {
     pub quality: u8,
     pub index: usize,

@@ -16,7 +16,7 @@ const SMALL: usize = 4 * SMALL_SLICES;
 const LARGE: usize = 4 * SLICES_MAX;
 
 // What a walk over all streams of a frame found.
-#[derive(Drop)]
+#[derive(Clone, Copy)]
 pub enum Walked {
     Both,
     DcOnly,
