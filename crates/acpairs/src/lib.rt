@@ -1,5 +1,7 @@
 // What the next ten bits of an AC stream hold: at most two whole symbols, looked up. The table stands in front of the reader by
 // leading zeros (bitreader), and its entries are proved to be what that reader reads.
+#![tactic(auto)]
+
 ghost use Rattle.std.specs.Prelude.{◌≡◌};
 ghost use Rattle.acpairs.specs.Pairs.{Looks};
 ghost use Rattle.acpairs.specs.Parts.{taken_of, before_last, places_of, first_value, last_value, five_at};

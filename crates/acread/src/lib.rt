@@ -1,4 +1,6 @@
 // Reading the AC places of a block (slice.rs, the inner loop of decode_plane).
+#![tactic(auto)]
+
 pub mod through;
 
 ghost use Rattle.std.specs.Prelude.{◌≡◌, ℕ, ◌+◌, ◌^◌, ◌≤◌, ◌<◌};

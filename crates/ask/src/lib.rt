@@ -1,5 +1,7 @@
 // The questions of document 01: their numbers, their limits, and how they are answered one by one.
 // Each call answers its own questions in their order and gives the number of the first "no" (`or_else`).
+#![tactic(auto)]
+
 pub mod limits;
 pub mod numbers;
 

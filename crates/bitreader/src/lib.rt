@@ -1,5 +1,7 @@
 // Reading bits and symbols (bits.rs, BitReader and AcCursor). Stream and position are passed separately.
 // A bit position counts from the stream's start, the highest bit of a byte first; past the end every bit is one.
+#![tactic(auto)]
+
 pub mod scan;
 pub mod words;
 

@@ -1,4 +1,6 @@
 // Bits and symbols of the slice streams (bits.rs): definitions and laws. The writer is the crate bitwriter, the reader bitreader.
+#![tactic(auto)]
+
 ghost use Rattle.std.specs.Prelude.{◌≡◌, ◌^◌, ◌<◌};
 ghost use Rattle.bits.specs.Bits.{bit_length};
 ghost use Rattle.bits.specs.Signed.{code_of};

@@ -1,5 +1,7 @@
 // The bit writer of the slice streams (BitAcc of bits.rs), highest bit first, over a buffer that the caller lends.
 // The accumulator takes up to 63 bits and stores eight whole bytes when it is full; only bytes of the stream are ever stored.
+#![tactic(auto)]
+
 pub mod lent;
 pub mod store;
 

@@ -3,6 +3,8 @@
 //
 // The builder is a state by value over a lent buffer: whose turn it is, and a place. A frame's limits are not in it: each
 // call finds them from width and height. It refuses a buffer without room; a refusal changes no byte.
+#![tactic(auto)]
+
 pub mod streams;
 
 ghost use Rattle.std.specs.Prelude.{◌≡◌, ◌+◌, ◌≤◌, leb, length};

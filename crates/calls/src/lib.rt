@@ -1,5 +1,6 @@
 // What the calls on planes and slices are given, as records by value; and the definitions of what they are asked, of a plane's
 // two streams, of previews, reports and sizes.
+#![tactic(auto)]
 
 // How coefficients are quantised and DCs are coded.
 #[derive(Clone, Copy)]

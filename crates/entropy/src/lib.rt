@@ -1,4 +1,6 @@
 // The entropy coder of slice.rs: a block, and the streams of a plane.
+#![tactic(auto)]
+
 pub mod block;
 pub mod eight;
 pub mod plane;

@@ -1,4 +1,6 @@
 // The forward transform of one 8 by 8 block (dct.rs, fdct_quant_zig, up to the quantiser): lanes row by row to coefficients in natural order.
+#![tactic(auto)]
+
 pub mod column;
 pub mod level_shift;
 pub mod load;

@@ -1,4 +1,6 @@
 // The row pass of the forward transform (dct.rs, fdct_row): each coefficient is a sum of four products, rounded, shifted and saturated.
+#![tactic(auto)]
+
 mod factors;
 pub mod rounding;
 pub mod sides;

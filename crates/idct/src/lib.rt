@@ -1,4 +1,6 @@
 // The inverse transform of a block: the row pass, then the columns, then the samples. A depth's path is in idct::eight and idct::ten.
+#![tactic(auto)]
+
 pub mod eight;
 pub mod ten;
 

@@ -1,5 +1,7 @@
 // The row pass of the inverse transform, row by row on eight lanes by value; only the products of neighbours are one loop over the block,
 // which the compiler needs (irow::pairs). A depth's rounding and shift, and its path, are in irow::eight and irow::ten.
+#![tactic(auto)]
+
 pub mod eight;
 pub mod pairs;
 pub mod ten;

@@ -1,5 +1,7 @@
 // Is there a bad code in what a reading call reaches? Judged before any sample is stored.
 // A stream without six zero bytes in a row holds none (bitreader::scan); only another is read through. Each stream is judged by itself.
+#![tactic(auto)]
+
 pub mod verdict;
 
 ghost use Rattle.std.specs.Prelude.{◌≡◌, List, ℕ, ◌*◌, ◌^◌, ◌≤◌, ◌<◌};

@@ -1,6 +1,8 @@
 // Vectors of 128 bits as arrays of lanes. The operations of lanes.rs on them, one loop over the lanes each, are in the modules of lanes;
 // the definitions of all of them (specs/Lanes.antt) and the loop's law (proofs/Turns.antt) are here, and how a vector is made.
 // Each means what the Intel intrinsic does whose name its definition has.
+#![tactic(auto)]
+
 pub mod order;
 pub mod packs;
 pub mod pair_products;

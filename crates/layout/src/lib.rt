@@ -1,4 +1,6 @@
 // Frame geometry (layout.rs): the sizes of a frame's planes and streams, and which image row is where.
+#![tactic(auto)]
+
 ghost use Rattle.std.specs.Prelude.{◌≡◌, [], ◌∷◌, ◌≤◌};
 ghost use Rattle.ask.specs.Ask.{first_no};
 ghost use Rattle.ask.specs.Limits.{width_max, height_max};

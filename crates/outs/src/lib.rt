@@ -1,3 +1,5 @@
 // Answers handed out into the places that a caller lends.
+#![tactic(auto)]
+
 pub mod frame;
 pub mod plane;

@@ -1,4 +1,6 @@
 // The block writers: each receives the rows from the block's corner on and stores 8 by 8 samples at the stride.
+#![tactic(auto)]
+
 pub mod flat_sample;
 pub mod row;
 

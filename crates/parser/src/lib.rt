@@ -1,6 +1,8 @@
 // Reading the compressed frame container (layout.rs).
 //
 // A frame is a header, then the DC streams of all slices in order, then the AC streams of all slices or of none.
+#![tactic(auto)]
+
 pub mod head;
 pub mod streams;
 

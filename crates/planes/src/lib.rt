@@ -1,4 +1,6 @@
 // What coding and reading a plane share: its level, and where its blocks have their corners.
+#![tactic(auto)]
+
 ghost use Rattle.std.specs.Prelude.{◌≡◌, ◌+◌, ◌*◌, ◌<◌, ◌≤◌, pos};
 ghost use Rattle.ask.specs.Limits.{stride_max};
 ghost use Rattle.calls.specs.Arguments.{eight, ten};

@@ -1,5 +1,7 @@
 // The preview of a plane, from its DC stream alone (slice.rs, decode_plane_preview).
 // The stream is judged before a byte is stored.
+#![tactic(auto)]
+
 pub mod report;
 pub mod row;
 

@@ -1,5 +1,7 @@
 // Inner functions opened to Rust, for the comparison with the published code: one file for each crate. Nobody else calls them.
 // What the crate vmx exports is compared through it.
+#![tactic(auto)]
+
 mod arrays;
 pub mod blocks;
 pub mod of_bitacc;

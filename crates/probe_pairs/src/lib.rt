@@ -1,5 +1,7 @@
 // Many pairs a call, so that the oracle can time the bit writer by itself: runs with values, one after the other.
 // No contract beyond being safe on any arguments.
+#![tactic(auto)]
+
 ghost use Rattle.std.specs.Prelude.{◌≡◌, true, ◌^◌, ◌<◌};
 
 use bitwriter::BitAcc;

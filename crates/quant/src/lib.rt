@@ -1,5 +1,7 @@
 // The quantiser and dequantising, on blocks of 64 by value (the end of `fdct_quant_zig` and the start of `idct8`, `idct16` of dct.rs), and the scan,
 // passed on. Both go by rows of eight lanes (dequantising: quant::eight, quant::ten), the scan by 64 moves.
+#![tactic(auto)]
+
 pub mod coded_ten;
 pub mod eight;
 pub mod one;

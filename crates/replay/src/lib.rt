@@ -1,4 +1,5 @@
 // What the parts of the program replays share (oracle/ANSWERS.md): numbers out of a record, counts, the report.
+#![tactic(auto)]
 
 ghost use Rattle.std.specs.Prelude.{◌<◌};
 

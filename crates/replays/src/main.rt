@@ -1,5 +1,7 @@
 // Replays the Rust's answers. data/ has a file for each part, of records of one length (oracle/ANSWERS.md); each record's answer
 // is computed anew and compared, and the counts of each part are written.
+#![tactic(auto)]
+
 mod arguments;
 mod built;
 mod frames;

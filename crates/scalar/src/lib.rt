@@ -1,6 +1,8 @@
 // One lane of each operation of lanes.rs, and the few steps that they are made of, in the modules of scalar: all their functions, definitions
 // and laws are passed on here, beside the laws that every loop over numbers cites.
 // One signed operation a function: so each proof is short, and the compiler inlines them all.
+#![tactic(auto)]
+
 pub mod cuts;
 pub mod products;
 pub mod shifts;

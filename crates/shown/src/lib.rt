@@ -2,6 +2,8 @@
 //
 // The verdict of a slice is the number that its reading call gave. A slice that was accepted (0) is shown out of the new
 // picture, any other out of the held one: old and new blocks never stand side by side under one time.
+#![tactic(auto)]
+
 pub mod eight;
 pub mod ten;
 

@@ -1,4 +1,6 @@
 // The operations of lanes.rs that move lanes, and the mask of a block's numbers that are not 0, passed on.
+#![tactic(auto)]
+
 pub mod mask;
 pub mod places;
 

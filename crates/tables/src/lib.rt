@@ -1,5 +1,7 @@
 // Divisors, zig-zag scan and quality presets (tables.rs; `decode` of `QuantTables` of dct.rs; `quality_preset` of layout.rs).
 // A preset's numbers are copied out of the constants once for each plane: a constant that a loop indexes would be built anew in each turn.
+#![tactic(auto)]
+
 mod divisors;
 pub mod quality;
 pub mod reciprocals;

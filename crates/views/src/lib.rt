@@ -1,4 +1,6 @@
 // The places of all streams of a frame at once, in a lent table: two numbers each.
+#![tactic(auto)]
+
 pub mod both;
 pub mod walk;
 

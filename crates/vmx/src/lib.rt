@@ -1,4 +1,6 @@
 // VMX planes, slice streams and frames: the calls for programs in C, C++ and Rust (include/vmx.h).
+#![tactic(auto)]
+
 pub mod container;
 pub mod eight;
 pub mod previews;

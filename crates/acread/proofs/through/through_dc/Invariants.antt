@@ -1,0 +1,16 @@
+use mathlib.Core.Path.{◌≡◌}
+use Prim.Native.Nat.{◌+◌, ◌-◌, ◌*◌, ◌≤◌}
+use Rattle.acread.proofs.through.CodesGoing.{Going}
+use Rattle.acread.proofs.through.through_dc.Given as goal
+
+abbrev pub invariant-loop-k : goal.invariant-loop-k
+invariant-loop-k l = (l.k ≤ l.columns) × (l.number ≡ 0) × Going l.dc (8 * l.at) (2 * l.columns) l.c (l.columns - l.k + (2 - (l.initial.number + 1)) * l.columns)
+
+abbrev pub decreases-loop-k : goal.decreases-loop-k
+decreases-loop-k l = l.columns - l.k
+
+abbrev pub invariant-codes : goal.invariant-codes
+invariant-codes l = (l.j ≤ 2) × (l.number ≡ 0) × Going l.dc (8 * l.at) (2 * l.columns) l.c ((2 - l.j) * l.columns)
+
+abbrev pub decreases-codes : goal.decreases-codes
+decreases-codes l = 2 - l.j

@@ -1,0 +1,28 @@
+use mathlib.Core.Path.{◌≡◌}
+use mathlib.Core.List.{◌++◌}
+use Prim.Native.Nat.{ℕ}
+use Rattle.bits.specs.Bits.{bits_of, value_code, run_code}
+use Rattle.bitwriter.specs.Pairs.{pair_code}
+use Rattle.bitwriter.specs.declared.PairCode.{PairCode}
+use Rattle.bitwriter.proofs.Words.{room_as}
+use Rattle.bitwriter.proofs.Pairs.{Pair, pair_word}
+use Rattle.bitwriter.proofs.put_run_value.Goals as goal
+
+-- the bits of the pair that was made
+bits_are : {q : PairCode} (n c : ℕ) → q ≡ pair_code n c → Pair n c → run_code n ++ value_code c ≡ bits_of q.length q.bits
+bits_are n c e p = rw e p.code
+
+pair : (c : goal.After-pair_code-p) → let s = c.before.before in Pair s.args.n s.args.c
+pair c = let s = c.before.before in pair_word s.args.n s.args.c s.requires.0 s.requires.1 s.requires.2
+
+pub put-requires : goal.put-requires
+put-requires c =
+    let k = c.before in
+    let s = k.before.before in
+    rw k.pair_code-p.ensures ((pair k).few, (pair k).ranges, room_as (pair k).long s.requires.3)
+
+pub returns : goal.returns
+returns c =
+    let k = c.before.before.before.before in
+    let s = k.before.before in
+    rw (bits_are s.args.n s.args.c k.pair_code-p.ensures (pair k)) c.before.before.put.ensures

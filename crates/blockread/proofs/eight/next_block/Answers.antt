@@ -1,0 +1,48 @@
+use Rattle.std.proofs.Common.{ℤ, refl, ⊎_elim, arith}
+use borrow.Author.Rules.{sfits_of}
+use Rattle.scalar.specs.Scalar.{add_of}
+use Rattle.scalar.proofs.Laws.{lane2}
+use Rattle.calls.specs.ReadPlane.{settle}
+use Rattle.acplaces.specs.Places.{Placed}
+use Rattle.blockread.proofs.Split.{fits_back, block_next, places_up}
+use Rattle.blockread.proofs.Good.{first_steps, first_places}
+use Rattle.blockread.proofs.Flat.{all_zeros}
+use Rattle.acread.specs.through.Codes.{step_of}
+use Rattle.blockread.proofs.eight.next_block.Goals as goal
+
+pub read_block-g-requires : goal.read_block-g-requires
+read_block-g-requires c =
+    let s = c.before.before.before.before.before in
+    let a = s.args in
+    (omega (arith, s.requires.2), s.requires.0.few, s.requires.4, s.requires.5, refl, first_places a.shift 0 a.dc.now a.ac.now a.s s.requires.6)
+
+-- read, or all zeros
+placed : (j : goal.Joined-s-lt64) → let a = j.before.before.before.before.args in Placed a.ac.now a.s.ac a.s.pending j.if-s-lt64.g j.if-s-lt64.nat
+placed j =
+    let s = j.before.before.before.before in
+    let a = s.args in
+    ⊎_elim
+    (λ w. rw (w.3, w.4) w.2.ensures)
+    (λ w. rw (w.2, w.3) (all_zeros a.ac.now a.s.ac a.s.pending w.0.left s.requires.0.few))
+    j.if-s-lt64.branch
+
+pub overflow_sub-result : goal.overflow_sub-result
+overflow_sub-result c =
+    let j = c.before.before.before.before.before.before in
+    let a = j.before.before.before.before.args in
+    places_up a.ac.now a.s.ac a.s.pending (placed j).answer
+
+pub returns : goal.returns
+returns c =
+    let u = c.before.before in
+    let v = u.before.before in
+    let n = v.before in
+    let j = n.before.before in
+    let s = j.before.before.before.before in
+    let a = s.args in
+    let h = n.next_dc-h.result in
+    block_next a.shift a.dc.now a.ac.now a.s j.if-s-lt64.g j.if-s-lt64.nat h (placed j) n.next_dc-h.ensures
+    (first_steps a.shift 0 a.dc.now a.ac.now a.s s.requires.6)
+    (fits_back {z = u.settled-last.result} (sfits_of u.settled-last.type_inv))
+    (lane2 (λ (x y : ℤ). add_of (settle a.shift (step_of h.run h.num) x) y) (sfits_of v.settled-arg-1.given) s.requires.0.fits (sfits_of u.settled-last.type_inv) u.settled-last.ensures)
+    refl

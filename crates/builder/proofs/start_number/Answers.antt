@@ -1,0 +1,23 @@
+use mathlib.Core.Path.{◌∙◌, ap, ap₂}
+use mathlib.Core.Bool.{Bool}
+use Prim.Native.Nat.{ℕ, ◌+◌}
+use lib.Dec.{leb}
+use Rattle.ask.specs.Ask.{or_else, first_no}
+use Rattle.ask.specs.Numbers.{no_shift, no_room, no_size}
+use Rattle.builder.specs.Build.{start_questions}
+use Rattle.builder.proofs.start_number.Goals as goal
+
+pub returns : goal.returns
+unfolding start_questions first_no
+returns c =
+    let from-room = c.before in
+    let from-size = from-room.before in
+    let size = from-size.before in
+    let room = size.before in
+    let long = room.before in
+    let shift = long.before in
+    let a = shift.before.args in
+    c.or_else.ensures
+    ∙ ap₂ (λ (b : Bool) (n : ℕ). or_else b no_shift n) shift.shift_ok-shifts.ensures (from-room.or_else-from_room.ensures
+    ∙ ap₂ (λ (b : Bool) (n : ℕ). or_else b no_room n) (room.fits2.ensures ∙ ap (λ (n : ℕ). leb (a.at + n) a.len) long.header_size-n.ensures.0) (from-size.or_else-from_size.ensures
+    ∙ ap (λ (b : Bool). or_else b no_size 0) size.Size-ok.ensures))

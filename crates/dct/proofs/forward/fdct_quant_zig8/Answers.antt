@@ -1,0 +1,11 @@
+use borrow.Author.Rules.{sfits_of}
+use mathlib.Core.Bool.{false}
+use Rattle.dct.proofs.Joined.{joined}
+use Rattle.dct.proofs.forward.fdct_quant_zig8.Goals as goal
+
+pub returns : goal.returns
+returns c =
+    let l = c.before in
+    let n = l.before in
+    let s = n.before.before in
+    λ preset h e. joined false preset s.args.level (sfits_of n.negated-add.type_inv) n.negated-add.ensures l.load8-block.ensures (c.fdct_quant_zig.ensures preset h e)

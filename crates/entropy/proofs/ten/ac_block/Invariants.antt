@@ -1,0 +1,9 @@
+use Prim.Native.Nat.{◌-◌}
+use Rattle.entropy.proofs.block.Walk.{Going}
+use Rattle.entropy.proofs.ten.ac_block.Given as goal
+
+abbrev pub invariant-loop-m : goal.invariant-loop-m
+invariant-loop-m l = Going l.z l.initial.a l.initial.out l.initial.run l.a l.out l.run l.m l.at
+
+abbrev pub decreases-loop-m : goal.decreases-loop-m
+decreases-loop-m l = 64 - l.at

@@ -1,0 +1,28 @@
+use borrow.Author.Rules.{sfits_of}
+use native.Mathlib.Omega.{arith}
+use mathlib.Core.Path.{◌≡◌, ap, ◌∙◌}
+use lib.IntN.{ℤ, pos}
+use mir.Syntax.{w16}
+use mir.Facts.{to_z-of_z}
+use Rattle.scalar.specs.Scalar.{min_of, max_of}
+use Rattle.scalar.proofs.Laws.{back}
+use Rattle.idct.proofs.Bounds.{least, clamp_is, least_small, least_ten}
+use Rattle.idct.proofs.ten.sample.Goals as goal
+
+-- what is left of x, read back from its bits
+clamp : (c : goal.After-max1-y) → back w16 c.max1-y.result ≡ pos (least c.before.before.args.x)
+clamp c =
+    let m = c.before in
+    let s = m.before in
+    to_z-of_z (sfits_of c.max1-y.type_inv) ∙ c.max1-y.ensures
+    ∙ ap (λ (z : ℤ). max_of z (pos 0)) (to_z-of_z (sfits_of m.min1.type_inv) ∙ m.min1.ensures ∙ ap (λ (z : ℤ). min_of z (pos 1023)) (to_z-of_z s.ranges.x))
+    ∙ clamp_is s.args.x
+
+pub overflow_cast-result : goal.overflow_cast-result
+overflow_cast-result c = rw (clamp c) (tt, record { fits = omega (arith, least_small c.before.before.args.x) })
+
+pub overflow_mul-result : goal.overflow_mul-result
+overflow_mul-result c = rw (clamp c) (record { fits = omega (arith, least_small c.before.before.args.x) })
+
+pub returns : goal.returns
+returns c = rw (clamp c) (least_ten c.before.before.args.x)

@@ -1,0 +1,11 @@
+use mathlib.Core.Path.{◌≡◌}
+use Prim.Native.Nat.{◌-◌, ◌*◌, ◌≤◌}
+use lib.Seq.{sets}
+use Rattle.scalar.specs.Tab.{tab, lane}
+use Rattle.lanes.proofs.rows.put.Given as goal
+
+abbrev pub invariant-loop-k : goal.invariant-loop-k
+invariant-loop-k l = (l.k ≤ 8) × (l.b ≡ sets l.r (8 * l.x) (tab l.k (lane l.initial.b)))
+
+abbrev pub decreases-loop-k : goal.decreases-loop-k
+decreases-loop-k l = 8 - l.k

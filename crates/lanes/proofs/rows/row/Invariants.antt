@@ -1,0 +1,10 @@
+use Prim.Native.Nat.{◌+◌, ◌-◌, ◌*◌}
+use Rattle.scalar.specs.Tab.{lane}
+use Rattle.scalar.proofs.Fill.{Filled}
+use Rattle.lanes.proofs.rows.row.Given as goal
+
+abbrev pub invariant-loop-k : goal.invariant-loop-k
+invariant-loop-k l = Filled 8 (λ i. lane l.b (8 * l.r + i)) l.x l.k
+
+abbrev pub decreases-loop-k : goal.decreases-loop-k
+decreases-loop-k l = 8 - l.k

@@ -1,0 +1,47 @@
+use borrow.Author.Rules.{sfits_of}
+use mathlib.Core.Path.{refl}
+use Prim.Native.Nat.{◌-◌}
+use native.Mathlib.Omega.{arith}
+use Rattle.scalar.specs.Scalar.{sra_of}
+use Rattle.scalar.specs.Tab.{lane}
+use Rattle.scalar.proofs.Fill.{filled_done}
+use Rattle.lanes.specs.Lanes.{mm_srai_epi16}
+use Rattle.lanes.proofs.Turns.{turn1}
+use Rattle.lanes.proofs.shifts.srai16.Goals as goal
+
+pub loop-k-preserved : goal.loop-k-preserved
+loop-k-preserved c =
+    let l = c.before.before.before in
+    let a = l.before.args in
+    turn1 8 (λ x. sra_of x a.n) a.t1 l.loop-k.r l.loop-k.k (omega arith) l.loop-k.invariant (sfits_of c.before.sra16-arg-1.given) (sfits_of c.sra16.type_inv) c.sra16.ensures
+
+pub returns : goal.returns
+unfolding mm_srai_epi16
+returns c =
+    let l = c.before in
+    let a = l.before.args in
+    filled_done 8 (λ i. sra_of (lane a.t1 i) a.n) l.loop-k.r l.loop-k.k (omega arith) l.loop-k.invariant
+
+pub loop-k-init : goal.loop-k-init
+loop-k-init c = (omega arith, (refl, refl))
+
+pub offset_bounds-a-k : goal.offset_bounds-a-k
+offset_bounds-a-k c = omega arith
+
+pub bounds-a-k : goal.bounds-a-k
+bounds-a-k c = omega arith
+
+pub sra16-requires : goal.sra16-requires
+sra16-requires c = omega arith
+
+pub offset_bounds-r-k : goal.offset_bounds-r-k
+offset_bounds-r-k c = omega arith
+
+pub bounds-r-k : goal.bounds-r-k
+bounds-r-k c = omega arith
+
+pub overflow_step-k : goal.overflow_step-k
+overflow_step-k c = omega arith
+
+pub loop-k-smaller : goal.loop-k-smaller
+loop-k-smaller c = omega arith

@@ -1,0 +1,11 @@
+use Prim.Native.Nat.{◌-◌}
+use Rattle.scalar.specs.Scalar.{add_of}
+use Rattle.scalar.specs.Tab.{lane}
+use Rattle.scalar.proofs.Fill.{Filled}
+use Rattle.lanes.proofs.sums.add16.Given as goal
+
+abbrev pub invariant-loop-k : goal.invariant-loop-k
+invariant-loop-k l = Filled 8 (λ i. add_of (lane l.a i) (lane l.b i)) l.r l.k
+
+abbrev pub decreases-loop-k : goal.decreases-loop-k
+decreases-loop-k l = 8 - l.k

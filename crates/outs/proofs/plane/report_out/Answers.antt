@@ -1,0 +1,18 @@
+use mathlib.Core.Path.{◌≡◌, sym, ap}
+use Rattle.calls.specs.Told.{content}
+use Rattle.preview.specs.report.Report.{report_says}
+use Rattle.acread.specs.declared.through.PlaneEnd.{PlaneEnd}
+use Rattle.acread.specs.declared.through.PlaneEnd.TheVariants as plane
+use Rattle.outs.proofs.plane.report_out.Goals as goal
+
+pub returns-in-Refused : goal.returns-in-Refused
+returns-in-Refused c bytes =
+    let a = c.before.before.before.args in
+    let e : plane.Refused c.before.answer-1.given.0.0 ≡ a.answer = sym c.before.answer-1.given.1 in
+    ap (λ (x : PlaneEnd). content (report_says a.ac_at_lem.now x bytes)) e
+
+pub returns-in-At : goal.returns-in-At
+returns-in-At c bytes =
+    let a = c.before.before.before.args in
+    let e : plane.At c.before.answer-in-At-1.given.0.0 ≡ a.answer = sym c.before.answer-in-At-1.given.1 in
+    ap (λ (x : PlaneEnd). content (report_says a.ac_at_lem.now x bytes)) e

@@ -1,0 +1,122 @@
+use mathlib.Core.Path.{ap₂, ◌≡◌, refl, sym, ap, subst, ◌∙◌}
+use mathlib.Core.Bool.{true}
+use mathlib.Core.List.{List}
+use mathlib.Core.Logic.{⊎_elim}
+use Prim.Native.Nat.{suc, ℕ, ◌+◌, ◌-◌, ◌*◌, ◌<◌}
+use native.Mathlib.Omega.{arith}
+use lib.ListN.{length, set, length-set}
+use Rattle.ask.specs.Ask.{accepted}
+use Rattle.bits.specs.Bits.{bit_at}
+use Rattle.bits.specs.Lay.{lay}
+use Rattle.calls.specs.ReadPlane.{read_blocks}
+use Rattle.bitreader.specs.declared.AcCursor.{AcCursor}
+use Rattle.acread.specs.Block.{flat_byte, BlockEnded}
+use Rattle.acread.specs.Going.{LooksFrom}
+use Rattle.acread.specs.through.Through.{block_ends, good_ends, reports_of}
+use Rattle.acread.proofs.Going.{flat_ended}
+use Rattle.acread.proofs.through.Blocks.{end_at}
+use Rattle.acread.proofs.through.Going.{Going, going_start, going_left, going_next, going_over, stored, not_bad, stored_all}
+use Rattle.acread.specs.declared.BlockEnd.{BlockEnd}
+use Rattle.acread.specs.declared.BlockEnd.TheVariants as block
+use Rattle.preview.proofs.report.store_blocks.Goals as goal
+
+pub overflow_mul-at : goal.overflow_mul-at
+overflow_mul-at c = omega arith
+
+pub cursor-c-requires : goal.cursor-c-requires
+cursor-c-requires c = omega arith
+
+pub loop-i-init : goal.loop-i-init
+loop-i-init c =
+    let s = c.before.before.before.before in
+    let a = s.args in
+    let r = c.cursor-c in
+    let z : a.n ≡ a.n - 0 = omega arith in (
+      omega arith,
+      refl,
+      going_left (a.n - 0) z (going_start a.ac.now (8 * a.at) a.n r.result r.ensures.0 r.ensures.1),
+      ap₂ (λ (x y : ℕ). lay a.report.now 0 (reports_of (read_blocks x (bit_at a.ac.now) y 0))) z (sym r.ensures.1),
+      s.requires.2,
+    )
+
+pub bounds-report-i : goal.bounds-report-i
+bounds-report-i c = omega arith
+
+pub skip_block-requires : goal.skip_block-requires
+skip_block-requires c =
+    let i = c.before.before.before.loop-i.invariant in
+    (i.2.holds, omega (arith, i.2.near), i.2.few, i.4)
+
+pub least_after-least-requires : goal.least_after-least-requires
+least_after-least-requires c = omega (arith, c.before.before.before.before.before.before.before.loop-i.invariant.2.near)
+
+pub shape_of-report-in-Bad : goal.shape_of-report-in-Bad
+shape_of-report-in-Bad c = simp length-set c.before.before.before.before.before.before.loop-i.invariant.1
+
+pub returns-in-Bad : goal.returns-in-Bad
+returns-in-Bad c =
+    let s = c.before.before.before.before.before.before.before.before.before.before.before in
+    let a = s.args in
+    let l = c.before.before.before.before.before.before.loop-i in
+    let b = c.before.before.skip_block in
+    let m = a.n - (l.i + 1) in
+    let z : a.n - l.i ≡ suc m = omega arith in
+    let e : b.result ≡ block.Bad = cc in
+    absurd
+    (not_bad a.ac.now (8 * a.at) a.n l.c l.pending m (going_left (suc m) z l.invariant.2) b.result b.ensures e s.requires.4)
+
+pub overflow_add-i : goal.overflow_add-i
+overflow_add-i c = omega arith
+
+pub loop-i-smaller : goal.loop-i-smaller
+loop-i-smaller c = omega arith
+
+-- one block more, that ends at d
+module _ (s : List ℕ) (p n : ℕ) (c : AcCursor) (pending m left : ℕ) (z : left ≡ suc m) (i : Going s p n c pending left) (good : good_ends (block_ends (read_blocks n (bit_at s) p 0)) ≡ true)
+    (l : List ℕ) (j : ℕ) (h : j < length l) (v : ℕ) (w : v ≡ flat_byte pending) where
+  next : (e : BlockEnd) → BlockEnded s c.pos pending e → (d : AcCursor) (k : ℕ) → e ≡ block.At d k → (d' : AcCursor) (k' : ℕ) → d' ≡ d → k' ≡ k
+      → Going s p n d' k' m
+      × (lay l j (reports_of (read_blocks left (bit_at s) c.pos pending)) ≡ lay (set l j v) (j + 1) (reports_of (read_blocks m (bit_at s) d'.pos k')))
+  next e b d k f d' k' x y =
+      let g = going_left (suc m) z i in
+      rw (x, y) (
+        going_next s p n c pending m g e b d k f,
+        ap (λ (q : ℕ). lay l j (reports_of (read_blocks q (bit_at s) c.pos pending))) z ∙ stored s p n c pending m g e b d k f good l j h w,
+      )
+
+pub loop-i-preserved : goal.loop-i-preserved
+loop-i-preserved c =
+    let s = c.before.before.before.before.before.before.before.before in
+    let a = s.args in
+    let l = c.before.before.before.loop-i in
+    let m = a.n - (l.i + 1) in
+    let z : a.n - l.i ≡ suc m = omega arith in
+    let one = next a.ac.now (8 * a.at) a.n l.c l.pending m (a.n - l.i) z l.invariant.2 s.requires.4 l.report l.i (omega (arith, l.invariant.1)) c.before.flat.result
+    c.before.flat.ensures in
+    ⊎_elim
+    (λ w.
+    let d = w.3.given in
+    let e : w.1.result ≡ block.At d.0.0 d.0.1.0 = cc in
+    let k = one w.1.result w.1.ensures d.0.0 d.0.1.0 e c.if-pending-lt64.c c.if-pending-lt64.pending w.6 w.7 in
+    (omega arith, simp length-set l.invariant.1, k.0, l.invariant.3 ∙ k.1, subst (λ (x : ℕ). LooksFrom x a.tab.now) (sym w.8) (w.5.ensures a.tab.now s.requires.2)))
+    (λ w.
+    let k = one (block.At l.c (l.pending - 64)) (flat_ended a.ac.now l.c l.pending l.invariant.2.holds l.invariant.2.few (omega (arith, w.0.left))) l.c (l.pending - 64) refl
+    c.if-pending-lt64.c c.if-pending-lt64.pending w.1 w.2 in
+    (omega arith, simp length-set l.invariant.1, k.0, l.invariant.3 ∙ k.1, subst (λ (x : ℕ). LooksFrom x a.tab.now) (sym w.3) l.invariant.4))
+    c.if-pending-lt64.branch
+
+pub end_byte-requires : goal.end_byte-requires
+end_byte-requires c = omega (arith, c.before.loop-i.invariant.2.near)
+
+pub shape_of-report : goal.shape_of-report
+shape_of-report c = c.before.before.loop-i.invariant.1
+
+pub returns : goal.returns
+returns c =
+    let a = c.before.before.before.before.before.before.before.args in
+    let l = c.before.before.loop-i in
+    let z : a.n - l.i ≡ 0 = omega arith in (
+      ap accepted c.end_byte.ensures
+          ∙ end_at (read_blocks a.n (bit_at a.ac.now) (8 * a.at) 0) l.c.pos l.pending (going_over a.ac.now (8 * a.at) a.n l.c l.pending (a.n - l.i) z l.invariant.2),
+      sym (l.invariant.3 ∙ stored_all a.ac.now l.c.pos l.pending (a.n - l.i) l.report l.i z),
+    )

@@ -1,0 +1,17 @@
+use mathlib.Core.Path.{sym, ap, ◌∙◌}
+use lib.Dec.{leb}
+use Rattle.ask.specs.Limits.{stride_ok, rows_needed}
+use Rattle.calls.specs.Views.{plane_call, lengths_by, starts_by}
+use Rattle.questions.proofs.of_call.Laws.{and_yes, reading_is}
+use Rattle.questions.proofs.of_call.reading_plane.Goals as goal
+
+pub returns : goal.returns
+returns c =
+    let l = c.before in
+    let s = l.before in
+    let w = s.before in
+    let a = w.before.args in
+    λ depth samples e. c.reading.ensures
+    ∙ reading_is (plane_call depth a.s a.h samples) (lengths_by a.dc a.ac) (starts_by a.dc a.ac) w.Place-ok.ensures
+    (s.stride_ok-strides.ensures ∙ and_yes (stride_ok a.h.stride))
+    (l.rows_ok-long.ensures ∙ ap (leb (rows_needed a.h.stride)) (sym e) ∙ and_yes _)

@@ -1,0 +1,23 @@
+use native.Mathlib.Omega.{arith}
+use Rattle.replays.proofs.all.Goals as goal
+
+pub loop-turns-init : goal.loop-turns-init
+loop-turns-init c = tt
+
+pub turn-requires : goal.turn-requires
+turn-requires c = tt
+
+pub overflow_sub-turns : goal.overflow_sub-turns
+overflow_sub-turns c = omega arith
+
+pub loop-turns-smaller : goal.loop-turns-smaller
+loop-turns-smaller c = omega arith
+
+pub loop-turns-preserved : goal.loop-turns-preserved
+loop-turns-preserved c = tt
+
+pub returns-else-turn : goal.returns-else-turn
+returns-else-turn c = tt
+
+pub returns-after-loop-turns : goal.returns-after-loop-turns
+returns-after-loop-turns c = tt

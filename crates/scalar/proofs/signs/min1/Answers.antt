@@ -1,0 +1,14 @@
+use mathlib.Core.Path.{◌∙◌}
+use mir.Facts.{to_z-of_z}
+use Rattle.scalar.proofs.signs.Laws.{min_left, min_right}
+use Rattle.scalar.proofs.signs.min1.Goals as goal
+
+pub returns-then-a-b : goal.returns-then-a-b
+returns-then-a-b c =
+    let s = c.before in
+    to_z-of_z s.ranges.a ∙ min_left s.args.a s.args.b (rw (to_z-of_z s.ranges.a, to_z-of_z s.ranges.b) at c.if-a-b.true)
+
+pub returns-else-a-b : goal.returns-else-a-b
+returns-else-a-b c =
+    let s = c.before in
+    to_z-of_z s.ranges.b ∙ min_right s.args.a s.args.b (rw (to_z-of_z s.ranges.a, to_z-of_z s.ranges.b) at c.if-a-b.false)

@@ -1,0 +1,14 @@
+use mathlib.Core.Path.{◌≡◌}
+use Prim.Native.Nat.{◌-◌, ◌≤◌}
+use lib.ListN.{length}
+use Rattle.ask.specs.Numbers.{no_turn}
+use Rattle.ask.specs.Ask.{refused}
+use Rattle.bits.specs.Lay.{lay}
+use Rattle.views.specs.walk.Table.{views_of}
+use Rattle.views.proofs.walk.table.no_views.Given as goal
+
+abbrev pub invariant-loop-k : goal.invariant-loop-k
+invariant-loop-k l = (l.k ≤ l.initial.table) × ((length l.table ≡ length l.i) × (l.table ≡ lay l.i l.n (views_of (λ _. refused no_turn) l.k)))
+
+abbrev pub decreases-loop-k : goal.decreases-loop-k
+decreases-loop-k l = l.initial.table - l.k

@@ -1,0 +1,88 @@
+use mathlib.Core.Path.{refl, sym}
+use Prim.Native.Nat.{◌-◌, ◌≤◌}
+use native.Mathlib.Omega.{arith}
+use Rattle.parser.proofs.streams.Laws.{place_told, part_before}
+use Rattle.views.proofs.walk.Walk.{begins, goes_on_lem, stops, undone, ends, stores, one_within}
+use Rattle.views.proofs.walk.walk_views.Goals as goal
+
+pub loop-k-init : goal.loop-k-init
+loop-k-init c =
+    let s = c.before.before.before in
+    let a = s.args in
+    begins a.f.now a.n a.limit a.p a.from a.table.now a.held.now s.requires
+
+pub overflow_sub-q : goal.overflow_sub-q
+overflow_sub-q c =
+    let k = c.before.before in
+    let l = k.before.before.before.before in
+    let a = l.before.before.before.before.args in
+    part_before a.limit a.f.now l.loop-k.at (place_told k.before.before.one_stream.ensures k.q-1.given.1)
+
+pub overflow_cast-q : goal.overflow_cast-q
+overflow_cast-q c =
+    let k = c.before.before in
+    let l = k.before.before.before.before in
+    let s = l.before.before.before.before in
+    let a = s.args in
+    omega (arith, s.requires.short, one_within a.limit a.f.now l.loop-k.at (place_told k.before.before.one_stream.ensures k.q-1.given.1))
+
+pub copy-requires : goal.copy-requires
+copy-requires c = (omega arith, omega arith)
+
+pub returns-in-Refused : goal.returns-in-Refused
+returns-in-Refused c =
+    let k = c.before.before.before.before.before in
+    let l = k.before.before.before.before in
+    let s = l.before.before.before.before in
+    let a = s.args in
+    let w = l.loop-k.invariant in
+    let no = stops a.f.now a.n a.limit a.p a.from a.table.now a.held.now s.requires w (omega arith) (place_told k.before.before.one_stream.ensures k.x-1.given.1) in (
+      sym no,
+      rw no
+          (undone a.f.now a.n a.limit a.p a.from a.table.now a.held.now s.requires w (omega arith) c.before.before.copy.ensures),
+    )
+
+pub loop-k-preserved : goal.loop-k-preserved
+loop-k-preserved c =
+    let v = c.before.before in
+    let k = v.before.before.before in
+    let l = k.before.before.before.before in
+    let s = l.before.before.before.before in
+    let a = s.args in
+    goes_on_lem a.f.now a.n a.limit a.p a.from a.table.now a.held.now s.requires l.loop-k.invariant (omega arith) refl
+    (place_told k.before.before.one_stream.ensures k.q-1.given.1) v.put_view.ensures
+
+pub returns : goal.returns
+returns c =
+    let l = c.before in
+    let s = l.before.before.before.before in
+    let a = s.args in
+    let w = l.loop-k.invariant in
+    let done : a.n ≤ l.loop-k.k = omega arith in (
+      sym (ends a.f.now a.n a.limit a.p a.from a.table.now a.held.now s.requires w done),
+      stores a.f.now a.n a.limit a.p a.from a.table.now a.held.now s.requires w done,
+    )
+
+pub overflow_add-from : goal.overflow_add-from
+overflow_add-from c = omega arith
+
+pub overflow_mul-from : goal.overflow_mul-from
+overflow_mul-from c = omega arith
+
+pub overflow_add-at : goal.overflow_add-at
+overflow_add-at c = omega arith
+
+pub overflow_cast-at : goal.overflow_cast-at
+overflow_cast-at c = omega arith
+
+pub overflow_add-at-in-At : goal.overflow_add-at-in-At
+overflow_add-at-in-At c = omega arith
+
+pub put_view-requires : goal.put_view-requires
+put_view-requires c = omega arith
+
+pub overflow_add-from-in-Refused : goal.overflow_add-from-in-Refused
+overflow_add-from-in-Refused c = omega arith
+
+pub overflow_mul-from-in-Refused : goal.overflow_mul-from-in-Refused
+overflow_mul-from-in-Refused c = omega arith
