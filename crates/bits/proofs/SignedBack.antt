@@ -32,7 +32,7 @@ mod_bits (negsuc n) h = omega arith
 -- a number of 16 bits is not cut
 pub wrap16_same : (z : ℤ) → mag z < 32768 → wrap16 z ≡ z
 unfolding wrap16
-wrap16_same z h = ap (to_z w16) (mod_bits z h) ∙ to_z-of_z (record { sfits = h })
+wrap16_same z h = ap (to_z w16) (mod_bits z h) ∙ to_z-of_z {w = w16} (record { sfits = h })
 
 pub signed_back : (z : ℤ) → mag z < 32768 → signed_of (code_of z) ≡ z
 signed_back z h = signed_code z ∙ wrap16_same z h

@@ -1,3 +1,4 @@
+-- Each entry of the constant is what its ten bits hold: antt computes all 1,024.
 use mathlib.Core.Path.{◌≡◌, refl, ap, ◌∙◌}
 use mathlib.Core.List.{List}
 use Prim.Native.Nat.{ℕ}

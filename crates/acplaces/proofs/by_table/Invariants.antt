@@ -1,3 +1,4 @@
+-- `acplaces::by_table`: the loop over looks.
 use mathlib.Core.Path.{◌≡◌}
 use Prim.Native.Nat.{◌+◌, ◌-◌, ◌<◌}
 use Rattle.acplaces.specs.Going.{Onward}

@@ -1,3 +1,4 @@
+-- `acplaces::by_zeros`: the loop over symbols.
 use mathlib.Core.Path.{ap, ◌∙◌}
 use mathlib.Core.List.{List}
 use mathlib.Core.Logic.{⊎_elim}

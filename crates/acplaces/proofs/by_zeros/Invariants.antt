@@ -1,3 +1,4 @@
+-- `acplaces::by_zeros`: the loop over symbols.
 use Prim.Native.Nat.{◌+◌, ◌-◌, ◌*◌, ◌^◌, ◌≤◌, ◌<◌}
 use Rattle.acplaces.specs.Going.{Onward}
 use Rattle.acplaces.proofs.by_zeros.Given as goal

@@ -1,3 +1,4 @@
+-- `acplaces::here`: by one load where eight bytes are left.
 use mathlib.Core.Path.{refl}
 use Prim.Native.Nat.{◌*◌, ◌%◌, ◌^◌}
 use Rattle.bitreader.proofs.Looks.{at_new}

@@ -1,3 +1,4 @@
+-- `acplaces::read_block`: the loop over words.
 use mathlib.Core.Path.{sym, ap, subst, ◌∙◌}
 use mathlib.Core.List.{List}
 use mathlib.Core.Logic.{⊎_elim}

@@ -1,3 +1,4 @@
+-- `acplaces::read_block`: the loop over words.
 use Prim.Native.Nat.{◌-◌}
 use Rattle.acplaces.specs.Going.{Going}
 use Rattle.acplaces.proofs.Going.{bare}

@@ -1,3 +1,4 @@
+-- `acread::by_table`: the loop over looks.
 use mathlib.Core.Path.{◌≡◌}
 use Prim.Native.Nat.{◌+◌, ◌-◌, ◌^◌, ◌≤◌, ◌<◌}
 use Rattle.acread.specs.Going.{Onward}

@@ -1,3 +1,4 @@
+-- `acread::flat`.
 use mathlib.Core.Path.{sym, ap}
 use mathlib.Core.Bool.{Bool, not, cond}
 use Prim.Native.Nat.{ℕ}

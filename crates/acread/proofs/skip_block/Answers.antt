@@ -1,3 +1,4 @@
+-- `acread::skip_block`: the loop over a block's symbols.
 use mathlib.Core.Logic.{⊎_elim}
 use Prim.Native.Nat.{◌+◌, ◌-◌, ◌≤◌, ◌<◌}
 use native.Mathlib.Omega.{arith}

@@ -1,3 +1,4 @@
+-- `acread::skip_block`: the loop over a block's symbols.
 use Prim.Native.Nat.{◌-◌, ◌<◌, ◌^◌}
 use Rattle.acread.specs.Going.{Going}
 use Rattle.acread.proofs.skip_block.Given as goal

@@ -1,3 +1,4 @@
+-- `acread::span`: by the head bit.
 use mathlib.Core.Path.{◌≡◌, refl}
 use Prim.Native.Nat.{ℕ, zero, suc}
 use native.Mathlib.Omega.{arith}

@@ -1,3 +1,4 @@
+-- `bitreader::from_code` meets its contract. Assumes nothing.
 use mathlib.Core.Path.{◌∙◌}
 use mir.Facts.{to_z-of_z}
 use Rattle.bitreader.proofs.Signs.{code_odd, code_even}

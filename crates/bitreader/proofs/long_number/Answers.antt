@@ -1,3 +1,5 @@
+-- `bitreader::long_number` meets its contract: the leading zeros of the word are the stream's, and the digits after them are at the top of a second word.
+-- Assumes nothing.
 use mathlib.Core.Path.{◌≡◌, ap, ◌∙◌}
 use Prim.Native.Nat.{ℕ, suc, ◌+◌, ◌-◌, ◌/◌, ◌%◌, ◌^◌, ◌≤◌, ◌<◌}
 use native.Mathlib.Omega.{arith}

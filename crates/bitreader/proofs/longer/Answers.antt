@@ -1,3 +1,4 @@
+-- `bitreader::longer` meets its contract: the length is found again from the number's digits. Assumes nothing.
 use mathlib.Core.Path.{refl, sym}
 use Prim.Native.Nat.{ℕ, ◌-◌, ◌≤◌, ◌<◌}
 use native.Mathlib.Omega.{arith}

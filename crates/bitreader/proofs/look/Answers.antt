@@ -1,3 +1,4 @@
+-- `bitreader::look` meets its contract. Assumes nothing.
 use native.Mathlib.Omega.{arith}
 use Rattle.bitreader.proofs.Seens.{zeros_most, seen_none, seen_some}
 use Rattle.bitreader.proofs.look.Goals as goal

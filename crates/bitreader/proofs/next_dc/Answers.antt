@@ -1,3 +1,4 @@
+-- `bitreader::next_dc` meets its contract: where the look finds a longer code, the slow path reads it. Assumes nothing.
 use native.Mathlib.Omega.{arith}
 use Rattle.bitreader.proofs.Longs.{dc_next, dc_answer}
 use Rattle.bitreader.proofs.next_dc.Goals as goal

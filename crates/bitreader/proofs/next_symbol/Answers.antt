@@ -1,3 +1,4 @@
+-- `bitreader::next_symbol` meets its contract: where the look finds a longer code, the slow path reads it. Assumes nothing.
 use native.Mathlib.Omega.{arith}
 use Rattle.bitreader.proofs.Longs.{head_two, long_next, long_symbol}
 use Rattle.bitreader.proofs.next_symbol.Goals as goal

@@ -1,3 +1,4 @@
+-- `bitreader::quick` meets its contract. Assumes nothing.
 use Prim.Native.Nat.{◌<◌}
 use native.Mathlib.Omega.{arith}
 use Rattle.bitreader.proofs.Seens.{seen_looked, seen_symbol}

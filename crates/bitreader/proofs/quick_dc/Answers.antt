@@ -1,3 +1,4 @@
+-- `bitreader::quick_dc` meets its contract. Assumes nothing.
 use mathlib.Core.Path.{refl}
 use native.Mathlib.Omega.{arith}
 use lib.Count.{count_leading_zeros}

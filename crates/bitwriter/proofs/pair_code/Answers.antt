@@ -1,3 +1,4 @@
+-- `bitwriter::pair_code` meets its contract: both codes are one number. Assumes nothing.
 use mathlib.Core.Path.{◌≡◌, ap, ap₂, ◌∙◌}
 use Prim.Native.Nat.{ℕ, ◌<◌, ◌+◌, ◌*◌, ◌-◌, ◌/◌, ◌^◌, ◌≤◌}
 use native.Mathlib.Nat.{lt_of_lt_of_le}

@@ -1,3 +1,4 @@
+-- `bitwriter::put` meets its contract: the bits fit the accumulator, or fill it and eight bytes go out. Assumes nothing.
 use mathlib.Core.Path.{◌≡◌, subst}
 use Prim.Native.Nat.{ℕ, ◌+◌, ◌-◌, ◌/◌, ◌^◌, ◌<◌, ◌≤◌}
 use native.Mathlib.Nat.{lt_of_lt_of_le}

@@ -1,3 +1,4 @@
+-- `bitwriter::put_run_value` meets its contract: both codes are one number. Assumes nothing.
 use mathlib.Core.Path.{◌≡◌}
 use mathlib.Core.List.{◌++◌}
 use Prim.Native.Nat.{ℕ}

@@ -1,3 +1,4 @@
+-- `bitwriter::run_word` meets its contract: the head stands one place above the run. Assumes nothing.
 use mathlib.Core.Path.{◌≡◌, sym, ap, ◌∙◌}
 use Prim.Native.Nat.{ℕ, zero, suc, ◌+◌, ◌-◌, ◌*◌, ◌/◌, ◌^◌, ◌%◌, ◌≤◌, ◌<◌}
 use native.Mathlib.Nat.{one-mul, mod-eq_of_lt, two-pow-succ}

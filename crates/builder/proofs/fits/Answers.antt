@@ -1,3 +1,4 @@
+-- `builder::fits`.
 use borrow.Author.Tests.{lt-leb}
 use mathlib.Core.Path.{sym}
 use native.Mathlib.Omega.{arith}

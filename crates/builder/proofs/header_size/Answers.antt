@@ -1,3 +1,4 @@
+-- `builder::header_size`.
 use mathlib.Core.Path.{refl, sym}
 use mathlib.Core.Bool.{true, false}
 use native.Mathlib.Omega.{arith}

@@ -1,6 +1,7 @@
+-- `builder::put_header`.
 use mathlib.Core.Path.{◌∙◌, ap}
 use mathlib.Core.Bool.{true, false}
-use mathlib.Core.List.{◌∷◌}
+use mathlib.Core.List.{[], ◌∷◌}
 use native.Mathlib.Omega.{arith}
 use Prim.Native.Nat.{◌+◌, ◌-◌}
 use lib.ListN.{length}

@@ -1,3 +1,4 @@
+-- `builder::start_frame`.
 use mathlib.Core.Path.{◌≡◌, refl, sym, ◌∙◌, ap}
 use mathlib.Core.Bool.{true, false}
 use native.Mathlib.Omega.{arith}
@@ -28,7 +29,7 @@ overflow_add-end c =
     let a = s.before.before.args in
     let g = starts_at a.width a.height (length a.out.now) a.at s.Shift-of.ensures h.start_number-x.ensures e.if-x-gt0.false in
     let r : c.header_size.result ≡ header_size s.Shift-of.result = c.header_size.ensures.0 in
-    omega (arith, g.room, r, s.before.before.well-formed.1.1.1.1.1.0)
+    omega (arith, g.room, r, s.before.before.well_formed.1.1.1.1.1.0)
 
 pub slice_count-slices-requires : goal.slice_count-slices-requires
 slice_count-slices-requires c =

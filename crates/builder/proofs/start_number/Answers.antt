@@ -1,3 +1,4 @@
+-- `builder::start_number`: one question after the other, from the last to the first.
 use mathlib.Core.Path.{◌∙◌, ap, ap₂}
 use mathlib.Core.Bool.{Bool}
 use Prim.Native.Nat.{ℕ, ◌+◌}

@@ -1,3 +1,4 @@
+-- `copy::copy`: so many bytes are copied.
 use borrow.Author.Rules.{rules}
 use mathlib.Core.Path.{◌≡◌, refl, ap, ◌∙◌}
 use native.Mathlib.Omega.{arith}

@@ -1,3 +1,4 @@
+-- `copy::copy`: so many bytes are copied.
 use mathlib.Core.Path.{◌≡◌}
 use Prim.Native.Nat.{◌-◌, ◌≤◌}
 use lib.ListN.{length, take, drop}
@@ -5,7 +6,7 @@ use Rattle.bits.specs.Lay.{lay}
 use Rattle.copy.proofs.copy.Given as goal
 
 abbrev pub invariant-loop-k : goal.invariant-loop-k
-invariant-loop-k l = (l.k ≤ l.initial.out) × ((length l.out ≡ length l.i) × (l.out ≡ lay l.i l.s (take l.k (drop l.n l.j))))
+invariant-loop-k l = (l.k ≤ l.n) × ((length l.out ≡ length l.initial.out) × (l.out ≡ lay l.initial.out l.i (take l.k (drop l.j l.s))))
 
 abbrev pub decreases-loop-k : goal.decreases-loop-k
-decreases-loop-k l = l.initial.out - l.k
+decreases-loop-k l = l.n - l.k

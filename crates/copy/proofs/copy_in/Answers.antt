@@ -1,3 +1,4 @@
+-- `copy::copy_in`: piece by piece.
 use borrow.Author.Rules.{rules}
 use mathlib.Core.Path.{refl, ap, ◌∙◌}
 use native.Mathlib.Omega.{arith}

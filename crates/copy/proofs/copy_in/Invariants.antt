@@ -1,3 +1,4 @@
+-- `copy::copy_in`: piece by piece.
 use mathlib.Core.Path.{◌≡◌}
 use Prim.Native.Nat.{◌-◌, ◌≤◌}
 use lib.ListN.{length, take}
@@ -5,7 +6,7 @@ use Rattle.bits.specs.Lay.{lay}
 use Rattle.copy.proofs.copy_in.Given as goal
 
 abbrev pub invariant-loop-k : goal.invariant-loop-k
-invariant-loop-k l = (l.k ≤ length l.initial.out) × ((length l.out ≡ length l.at) × (l.out ≡ lay l.at l.s (take l.k l.initial.out)))
+invariant-loop-k l = (l.k ≤ length l.s) × ((length l.out ≡ length l.initial.out) × (l.out ≡ lay l.initial.out l.at (take l.k l.s)))
 
 abbrev pub decreases-loop-k : goal.decreases-loop-k
-decreases-loop-k l = length l.initial.out - l.k
+decreases-loop-k l = length l.s - l.k

@@ -1,3 +1,4 @@
+-- `copy::copy_piece`: what lies in the array is what was to be copied.
 use native.Mathlib.Omega.{arith}
 use Prim.Native.Nat.{ℕ}
 use lib.ListN.{replicate, length-replicate}

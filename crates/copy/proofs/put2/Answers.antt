@@ -1,3 +1,4 @@
+-- `copy::put2`.
 use native.Mathlib.Omega.{arith}
 use Prim.Native.Nat.{◌-◌}
 use lib.ListN.{length-set}

@@ -1,3 +1,4 @@
+-- `fdct::fdct` is level shift, column pass and row pass. Assumes nothing.
 use mathlib.Core.Path.{◌∙◌, ap}
 use lib.IntN.{ℤ}
 use mir.Facts.{to_z-of_z}

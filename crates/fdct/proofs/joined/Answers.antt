@@ -1,3 +1,4 @@
+-- `fdct::joined` puts the eight rows in one after the other. Assumes nothing.
 use mathlib.Core.Path.{refl}
 use Rattle.fdct.specs.column.Rows.{rows_of}
 use Rattle.fdct.proofs.column.Puts.{eight_put}

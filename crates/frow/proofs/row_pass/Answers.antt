@@ -1,3 +1,4 @@
+-- `frow::row_pass` is `forward_rows_of`: the constant tables are the parts of FTAB1 to FTAB4, and the steps' results join by `row_law`. Assumes nothing.
 use Rattle.scalar.specs.Tab.{tab_from}
 use Rattle.frow.specs.Rows.{ftab1, ftab2, ftab3, ftab4, table_at}
 use Rattle.frow.specs.Parts.{table_part}

@@ -15,13 +15,13 @@ loop-r-preserved c =
     let o = y.before in
     let n = o.before.before in
     let l = n.before in
-    put_turn (at l.before.args.t1) l.loop-r.x l.loop-r.r n.loop-r-test.true l.loop-r.invariant c.put.ensures
+    put_turn (at l.before.args.a) l.loop-r.x l.loop-r.r n.loop-r-test.true l.loop-r.invariant c.put.ensures
     (y.shufflehi-y.ensures ∙ ap (λ (x : List ℤ). mm_shufflehi_epi16 x 27) o.row.ensures)
 
 pub returns : goal.returns
 returns c =
     let l = c.before in
-    let a = l.before.args.t1 in
+    let a = l.before.args.a in
     put_done (at a) l.loop-r.x l.loop-r.r (omega arith) l.loop-r.invariant ∙ mirror_law a
 
 pub loop-r-init : goal.loop-r-init

@@ -1,3 +1,4 @@
+-- `judge::plane`: one plane of either stream.
 use mathlib.Core.Path.{sym, ◌∙◌}
 use Prim.Native.Nat.{◌*◌}
 use native.Mathlib.Omega.{arith}

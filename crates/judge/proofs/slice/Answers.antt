@@ -1,3 +1,4 @@
+-- `judge::slice`: the first planes of either stream.
 use mathlib.Core.Path.{sym, ap, ◌∙◌}
 use mathlib.Core.Bool.{◌&&◌}
 use mathlib.Core.List.{List}

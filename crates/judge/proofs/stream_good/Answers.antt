@@ -1,3 +1,4 @@
+-- `judge::stream_good`: clean by the scan, or plane by plane.
 use mathlib.Core.Path.{◌≡◌, sym, ap, ◌∙◌}
 use Prim.Native.Nat.{◌-◌}
 use native.Mathlib.Omega.{arith}

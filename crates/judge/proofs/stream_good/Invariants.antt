@@ -1,3 +1,4 @@
+-- `judge::stream_good`: clean by the scan, or plane by plane.
 use mathlib.Core.List.{List}
 use Prim.Native.Nat.{ℕ, ◌-◌, ◌≤◌}
 use Rattle.calls.specs.declared.Four.{Four}

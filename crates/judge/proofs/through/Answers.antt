@@ -1,3 +1,4 @@
+-- `judge::through`.
 use native.Mathlib.Omega.{arith}
 use Rattle.judge.proofs.through.Goals as goal
 

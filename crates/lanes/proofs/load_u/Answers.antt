@@ -14,14 +14,14 @@ pub loop-k-preserved : goal.loop-k-preserved
 loop-k-preserved c =
     let l = c.before.before in
     let a = l.before.args in
-    filled_next 8 (λ i. to_z w16 (get_or a.t1 i 0)) l.loop-k.r l.loop-k.k (omega arith) l.loop-k.invariant (lane0 (sfits_of c.signed16.type_inv) c.signed16.ensures)
+    filled_next 8 (λ i. to_z w16 (get_or a.t i 0)) l.loop-k.r l.loop-k.k (omega arith) l.loop-k.invariant (lane0 {v = w16} (sfits_of c.signed16.type_inv) c.signed16.ensures)
 
 pub returns : goal.returns
 unfolding mm_loadu_si128
 returns c =
     let l = c.before in
     let a = l.before.args in
-    filled_done 8 (λ i. to_z w16 (get_or a.t1 i 0)) l.loop-k.r l.loop-k.k (omega arith) l.loop-k.invariant
+    filled_done 8 (λ i. to_z w16 (get_or a.t i 0)) l.loop-k.r l.loop-k.k (omega arith) l.loop-k.invariant
 
 pub loop-k-init : goal.loop-k-init
 loop-k-init c = (omega arith, (refl, refl))

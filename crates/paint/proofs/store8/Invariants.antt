@@ -6,7 +6,7 @@ use Rattle.paint.proofs.Pixels.{painted}
 use Rattle.paint.proofs.store8.Given as goal
 
 abbrev pub invariant-loop-i : goal.invariant-loop-i
-invariant-loop-i l = (l.i ≤ 8) × (length l.rows ≡ length l.stride) × (l.rows ≡ over (painted l.p (sample_in_block l.initial.rows) (l.i * 8)) 0 l.stride)
+invariant-loop-i l = (l.i ≤ 8) × (length l.rows ≡ length l.initial.rows) × (l.rows ≡ over (painted l.stride (sample_in_block l.p) (l.i * 8)) 0 l.initial.rows)
 
 abbrev pub decreases-loop-i : goal.decreases-loop-i
 decreases-loop-i l = 8 - l.i

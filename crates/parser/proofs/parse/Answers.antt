@@ -1,3 +1,4 @@
+-- `parser::parse`: the header's questions, then the two walks.
 use mathlib.Core.Path.{◌≡◌, sym, ◌∙◌, ap}
 use mathlib.Core.List.{List}
 use Prim.Native.Nat.{ℕ}

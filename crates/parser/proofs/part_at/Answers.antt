@@ -1,3 +1,4 @@
+-- `parser::part_at`.
 use mathlib.Core.Path.{◌≡◌, sym, ◌∙◌}
 use mir.Val.{Fits}
 use mir.Syntax.{w64}

@@ -1,3 +1,4 @@
+-- `parser::view_at`: the header's questions, then the two walks, which note the stream that is asked for.
 use mathlib.Core.Path.{◌≡◌, refl, sym, ◌∙◌}
 use mathlib.Core.Bool.{true, false}
 use mathlib.Core.List.{List}

@@ -1,3 +1,4 @@
+-- `parser::walk_past`: k streams, then the others.
 use mathlib.Core.Path.{◌≡◌, sym, ap, ◌∙◌}
 use mathlib.Core.Logic.{⊎_elim}
 use native.Mathlib.Omega.{arith}

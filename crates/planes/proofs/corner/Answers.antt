@@ -1,3 +1,4 @@
+-- `planes::corner`.
 use native.Mathlib.Omega.{arith}
 use Rattle.planes.proofs.Laws.{top_small}
 use Rattle.planes.proofs.corner.Goals as goal

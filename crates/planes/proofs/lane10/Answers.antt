@@ -1,3 +1,4 @@
+-- `planes::lane10`.
 use mathlib.Core.Path.{◌∙◌}
 use mir.Syntax.{w16}
 use mir.Facts.{to_z_pos}

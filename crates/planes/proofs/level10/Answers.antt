@@ -1,3 +1,4 @@
+-- `planes::level10`.
 use native.Mathlib.Omega.{arith}
 use Rattle.calls.specs.Arguments.{ten}
 use Rattle.planes.proofs.Laws.{level_at_0, level_at_3, level_else}

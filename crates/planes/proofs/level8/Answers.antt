@@ -1,3 +1,4 @@
+-- `planes::level8`.
 use native.Mathlib.Omega.{arith}
 use Rattle.calls.specs.Arguments.{eight}
 use Rattle.planes.proofs.Laws.{level_at_0, level_at_3, level_else}

@@ -1,3 +1,4 @@
+-- `preview::preview`: the questions, the judge, then the bytes.
 use mathlib.Core.Path.{◌≡◌, refl, sym, ◌∙◌}
 use native.Mathlib.Omega.{arith}
 use lib.ListN.{length}

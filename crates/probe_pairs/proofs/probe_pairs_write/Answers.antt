@@ -1,3 +1,4 @@
+-- `probe_pairs::probe_pairs_write`: at most 63 bits a pair, so eight bytes a pair are room enough.
 use mathlib.Core.Path.{◌≡◌, refl, sym}
 use mathlib.Core.Bool.{Bool, true, false, not}
 use Prim.Native.Nat.{◌-◌, ◌/◌, ◌^◌, ◌≤◌, ◌<◌}

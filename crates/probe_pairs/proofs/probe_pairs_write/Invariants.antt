@@ -1,3 +1,4 @@
+-- `probe_pairs::probe_pairs_write`: at most 63 bits a pair, so eight bytes a pair are room enough.
 use mathlib.Core.Path.{◌≡◌}
 use Prim.Native.Nat.{◌+◌, ◌-◌, ◌*◌, ◌≤◌}
 use lib.ListN.{length}

@@ -1,3 +1,4 @@
+-- `probe_pairs::taken`.
 use mathlib.Core.Path.{◌≡◌}
 use mathlib.Core.Bool.{true, false}
 use Prim.Native.Nat.{ℕ}

@@ -1,3 +1,4 @@
+-- `quant::quant` puts a row in each turn of the loop inside.
 use borrow.Author.Rules.{rules}
 use mathlib.Core.Path.{refl, ◌∙◌}
 use Prim.Native.Nat.{ℕ, ◌+◌, ◌-◌, ◌*◌}
@@ -13,7 +14,7 @@ pub loop-h-init : goal.loop-h-init
 loop-h-init c =
     let l = c.before in
     let a = l.before.args in
-    two_begin (row_at a.k.now a.t1) l.loop-p.q l.loop-p.p l.loop-p.invariant
+    two_begin (row_at a.k.now a.w) l.loop-p.q l.loop-p.p l.loop-p.invariant
 
 pub quant_row-y-requires : goal.quant_row-y-requires
 quant_row-y-requires c =
@@ -24,8 +25,8 @@ quant_row-y-requires c =
     let l = j.before.before in
     let s = l.before in
     let a = s.args in
-    let fits : (i : ℕ) → SFits w16 (coefficient a.t1 i) = λ i. search (each_fits, rules) in
-    row_fits a.k.now a.t1 fits s.requires (2 * l.loop-p.p + j.loop-h.h) (omega arith) x.row.ensures n.numbers_at.ensures m.numbers_at-in-loop-h.ensures c.numbers_at-in-loop-h-2.ensures
+    let fits : (i : ℕ) → SFits w16 (coefficient a.w i) = λ i. search (each_fits, rules) in
+    row_fits a.k.now a.w fits s.requires (2 * l.loop-p.p + j.loop-h.h) (omega arith) x.row.ensures n.numbers_at.ensures m.numbers_at-in-loop-h.ensures c.numbers_at-in-loop-h-2.ensures
 
 pub loop-h-preserved : goal.loop-h-preserved
 loop-h-preserved c =
@@ -41,23 +42,23 @@ loop-h-preserved c =
     let a = l.before.args in
     let p = l.loop-p.p in
     let h = j.loop-h.h in
-    two_turn (row_at a.k.now a.t1) j.loop-h.q p h o.loop-p-test.true i.loop-h-test.true j.loop-h.invariant c.put.ensures
-    (row_of_calls a.k.now a.t1 (2 * p + h) x.row.ensures n.numbers_at.ensures m.numbers_at-in-loop-h.ensures z.numbers_at-in-loop-h-2.ensures y.quant_row-y.ensures)
+    two_turn (row_at a.k.now a.w) j.loop-h.q p h o.loop-p-test.true i.loop-h-test.true j.loop-h.invariant c.put.ensures
+    (row_of_calls a.k.now a.w (2 * p + h) x.row.ensures n.numbers_at.ensures m.numbers_at-in-loop-h.ensures z.numbers_at-in-loop-h-2.ensures y.quant_row-y.ensures)
 
 pub loop-p-preserved : goal.loop-p-preserved
 loop-p-preserved c =
     let j = c.before in
     let l = j.before.before in
     let a = l.before.args in
-    two_end (row_at a.k.now a.t1) j.loop-h.q l.loop-p.p j.loop-h.h c.loop-h-test.false j.loop-h.invariant
+    two_end (row_at a.k.now a.w) j.loop-h.q l.loop-p.p j.loop-h.h c.loop-h-test.false j.loop-h.invariant
 
 pub returns : goal.returns
 returns c =
     let l = c.before in
     let a = l.before.args in
-    let fits : (i : ℕ) → SFits w16 (coefficient a.t1 i) = λ i. search (each_fits, rules) in
+    let fits : (i : ℕ) → SFits w16 (coefficient a.w i) = λ i. search (each_fits, rules) in
     λ preset hp e.
-    put_done (row_at a.k.now a.t1) l.loop-p.q (2 * l.loop-p.p) (omega arith) l.loop-p.invariant ∙ block_law a.k.now a.t1 fits preset hp e
+    put_done (row_at a.k.now a.w) l.loop-p.q (2 * l.loop-p.p) (omega arith) l.loop-p.invariant ∙ block_law a.k.now a.w fits preset hp e
 
 pub loop-p-init : goal.loop-p-init
 loop-p-init c = (omega arith, (refl, refl))

@@ -19,7 +19,7 @@ quant1-requires c =
     let n = c.before in
     let l = n.before in
     let s = l.before in
-    let x : SFits w16 (coefficient s.args.t1 l.loop-k.k) = sfits_of c.quant1-arg-1.given in
+    let x : SFits w16 (coefficient s.args.x l.loop-k.k) = sfits_of c.quant1-arg-1.given in
     rw (to_z-of_z x) (s.requires l.loop-k.k n.loop-k-test.true)
 
 pub loop-k-preserved : goal.loop-k-preserved
@@ -28,15 +28,15 @@ loop-k-preserved c =
     let l = n.before in
     let a = l.before.args in
     let k = l.loop-k.k in
-    filled_next 8 (λ i. with_sign (coefficient a.t1 i) (multiplied_at a.t2 a.t3 a.t4 a.t1 i)) l.loop-k.q k (omega arith) l.loop-k.invariant
-    (lane1 (λ (x : ℤ). with_sign x (two_high (get_or a.t2 k 0) (get_or a.t3 k 0) (get_or a.t4 k 0) (nat_abs x))) (sfits_of c.before.quant1-arg-1.given) (sfits_of c.quant1.type_inv) c.quant1.ensures)
+    filled_next 8 (λ i. with_sign (coefficient a.x i) (multiplied_at a.c a.r a.s a.x i)) l.loop-k.q k (omega arith) l.loop-k.invariant
+    (lane1 (λ (x : ℤ). with_sign x (two_high (get_or a.c k 0) (get_or a.r k 0) (get_or a.s k 0) (nat_abs x))) (sfits_of c.before.quant1-arg-1.given) (sfits_of c.quant1.type_inv) c.quant1.ensures)
 
 pub returns : goal.returns
 unfolding multiplied_row
 returns c =
     let l = c.before in
     let a = l.before.args in
-    filled_done 8 (λ i. with_sign (coefficient a.t1 i) (multiplied_at a.t2 a.t3 a.t4 a.t1 i)) l.loop-k.q l.loop-k.k (omega arith) l.loop-k.invariant
+    filled_done 8 (λ i. with_sign (coefficient a.x i) (multiplied_at a.c a.r a.s a.x i)) l.loop-k.q l.loop-k.k (omega arith) l.loop-k.invariant
 
 pub loop-k-init : goal.loop-k-init
 loop-k-init c = (omega arith, (refl, refl))

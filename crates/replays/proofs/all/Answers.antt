@@ -1,3 +1,4 @@
+-- `replays::all` ends: the measure is the number of turns that are left. Assumes nothing.
 use native.Mathlib.Omega.{arith}
 use Rattle.replays.proofs.all.Goals as goal
 

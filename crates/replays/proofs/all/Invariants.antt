@@ -1,3 +1,4 @@
+-- `replays::all` ends: the measure is the number of turns that are left. Assumes nothing.
 use Rattle.replays.proofs.all.Given as goal
 
 abbrev pub invariant-loop-turns : goal.invariant-loop-turns

@@ -1,3 +1,4 @@
+-- `views::all_views`: the table's question, the header's, then the walks.
 use mathlib.Core.Path.{sym, ap, ap₂, ◌∙◌}
 use mathlib.Core.List.{List}
 use Prim.Native.Nat.{ℕ}

@@ -1,3 +1,4 @@
+-- `views::table_ok`.
 use mathlib.Core.Path.{ap}
 use Prim.Native.Nat.{ℕ, ◌*◌}
 use native.Mathlib.Omega.{arith}

@@ -1,3 +1,4 @@
+-- `acread::through::dc_good`: clean by the scan, or by the answer of the read-through.
 use mathlib.Core.Path.{◌≡◌, sym, ap, ◌∙◌}
 use Prim.Native.Nat.{◌*◌}
 use native.Mathlib.Omega.{arith}

@@ -1,3 +1,4 @@
+-- `acread::through::through_ac`: two rows of blocks, left by the label at the first bad code.
 use Rattle.ask.specs.Ask.{refused, accepted}
 use Rattle.bits.specs.Bits.{bit_at, bytes_for}
 use Rattle.bitreader.specs.declared.AcCursor.{AcCursor}

@@ -1,10 +1,11 @@
+-- `acread::through::through_dc`: two rows of blocks, left by the label at the first bad code.
 use mathlib.Core.Path.{◌≡◌}
 use Prim.Native.Nat.{◌+◌, ◌-◌, ◌*◌, ◌≤◌}
 use Rattle.acread.proofs.through.CodesGoing.{Going}
 use Rattle.acread.proofs.through.through_dc.Given as goal
 
 abbrev pub invariant-loop-k : goal.invariant-loop-k
-invariant-loop-k l = (l.k ≤ l.columns) × (l.number ≡ 0) × Going l.dc (8 * l.at) (2 * l.columns) l.c (l.columns - l.k + (2 - (l.initial.number + 1)) * l.columns)
+invariant-loop-k l = (l.k ≤ l.columns) × (l.number ≡ 0) × Going l.dc (8 * l.at) (2 * l.columns) l.c (l.columns - l.k + (2 - (l.j + 1)) * l.columns)
 
 abbrev pub decreases-loop-k : goal.decreases-loop-k
 decreases-loop-k l = l.columns - l.k

@@ -1,3 +1,4 @@
+-- `bitreader::scan::no_six_zeros` meets its contract: what was found so far and what is still to come together are the answer. Assumes nothing.
 use mathlib.Core.Path.{refl, sym, ap, ◌∙◌}
 use mathlib.Core.Bool.{Bool, ◌&&◌, and-true}
 use Prim.Native.Nat.{◌-◌}

@@ -1,3 +1,4 @@
+-- `bitreader::words::byte` meets its contract. Assumes nothing.
 use mathlib.Core.Path.{sym}
 use lib.ListN.{get_or-eq_default}
 use Rattle.bitreader.proofs.words.Words.{get_d_in}

@@ -1,3 +1,4 @@
+-- `bitreader::words::edge` meets its contract: after k turns w is the first k bytes. Assumes nothing.
 use mathlib.Core.Path.{◌≡◌, refl}
 use Prim.Native.Nat.{ℕ, ◌+◌, ◌-◌, ◌*◌, ◌<◌}
 use native.Mathlib.Omega.{arith}

@@ -1,3 +1,4 @@
+-- `bitreader::words::join8` meets its contract. Assumes nothing.
 use Rattle.bitreader.proofs.words.Words.{flat}
 use Rattle.bitreader.proofs.words.join8.Goals as goal
 

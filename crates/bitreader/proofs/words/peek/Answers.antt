@@ -1,3 +1,4 @@
+-- `bitreader::words::peek` meets its contract. Assumes nothing.
 use Rattle.bitreader.proofs.words.Words.{holds_peek}
 use Rattle.bitreader.proofs.words.peek.Goals as goal
 

@@ -1,3 +1,4 @@
+-- `bitreader::words::word` meets its contract. Assumes nothing.
 use mathlib.Core.Path.{◌∙◌}
 use native.Mathlib.Omega.{arith}
 use Rattle.bitreader.proofs.words.Words.{num_eight}

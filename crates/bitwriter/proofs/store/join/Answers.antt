@@ -1,3 +1,4 @@
+-- `bitwriter::store::join` meets its contract. Assumes nothing.
 use mathlib.Core.Path.{◌≡◌, ap, ◌∙◌}
 use Prim.Native.Nat.{ℕ, ◌+◌, ◌-◌, ◌*◌, ◌^◌, ◌%◌, ◌<◌}
 use native.Mathlib.Omega.{arith}

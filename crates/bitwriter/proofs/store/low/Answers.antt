@@ -1,3 +1,4 @@
+-- `bitwriter::store::low` meets its contract. Assumes nothing.
 use mathlib.Core.Path.{◌≡◌, ap, ◌∙◌}
 use Prim.Native.Nat.{ℕ, ◌-◌, ◌*◌, ◌^◌, ◌%◌, ◌<◌}
 use native.Mathlib.Nat.{one-mul, mod-eq_of_lt}

@@ -1,3 +1,4 @@
+-- `bitwriter::store::store_low` meets its contract. The loop's invariant: the bytes laid, then those to come, are the bytes of w. Assumes nothing.
 use mathlib.Core.Path.{◌≡◌}
 use mathlib.Core.List.{List, ◌++◌}
 use Prim.Native.Nat.{ℕ, ◌+◌, ◌-◌, ◌≤◌}
@@ -15,7 +16,7 @@ pub record Laid (l : List ℕ) (p w m : ℕ) (out : List ℕ) (k i : ℕ) : Type
   same : length out ≡ length l
 
 abbrev pub invariant-loop-k : goal.invariant-loop-k
-invariant-loop-k l = Laid l.p l.w l.m l.initial.out l.out l.k l.i × (l.k ≤ l.initial.out)
+invariant-loop-k l = Laid l.initial.out l.p l.w l.m l.out l.k l.i × (l.k ≤ l.m)
 
 abbrev pub decreases-loop-k : goal.decreases-loop-k
 decreases-loop-k l = l.k

@@ -1,3 +1,4 @@
+-- `blockread::dc::add_back`: words, their wrapping sum, read as signed.
 use Rattle.std.proofs.Common.{ℕ, ◌+◌, ◌%◌, ap, ◌∙◌, ap₂, to_z-of_z, w16, to_z, of_z}
 use borrow.Author.Rules.{sfits_of}
 use Rattle.blockread.proofs.dc.Back.{add_words}

@@ -1,3 +1,4 @@
+-- `blockread::dc::preview_byte`: four operations, one after the other.
 use Rattle.std.proofs.Common.{◌≡◌, ℕ, ◌%◌, ℤ, pos, ap, ◌∙◌, ap₂, to_z-of_z, w16, to_z, of_z}
 use borrow.Author.Rules.{sfits_of}
 use Rattle.scalar.specs.Scalar.{add_of, sra_of, mod_z}

@@ -1,3 +1,4 @@
+-- `blockread::dc::settled`: by the head bit.
 use Rattle.std.proofs.Common.{ℤ, sym, ap, ◌∙◌, to_z-of_z}
 use borrow.Author.Rules.{sfits_of}
 use Rattle.scalar.specs.Scalar.{add_of, sll_of}

@@ -1,3 +1,4 @@
+-- `blockread::dc::word`: what 16 bits are fits 16 bits.
 use Rattle.std.proofs.Common.{ap, ◌∙◌, to_z-of_z, w16, of_z}
 use mir.Facts.{Fits-of_z}
 use Rattle.blockread.proofs.dc.word.Goals as goal

@@ -1,3 +1,4 @@
+-- `blockread::ten::next_block`: the AC places, then the DC.
 use Rattle.std.proofs.Common.{ℤ, refl, ⊎_elim, arith}
 use borrow.Author.Rules.{sfits_of}
 use Rattle.scalar.specs.Scalar.{add_of}

@@ -1,3 +1,4 @@
+-- `builder::streams::complete`.
 use mathlib.Core.Path.{sym, ◌∙◌}
 use mathlib.Core.Bool.{true}
 use Rattle.layout.proofs.Laws.{sized}

@@ -1,3 +1,4 @@
+-- `builder::streams::from_size`.
 use mathlib.Core.Path.{sym, ◌∙◌}
 use Rattle.ask.specs.Numbers.{no_size}
 use Rattle.ask.proofs.FirstNo.{yes, no}

@@ -1,3 +1,4 @@
+-- `builder::streams::is_complete`.
 use Rattle.builder.proofs.streams.Laws.{complete_first, complete_last}
 use Rattle.builder.proofs.streams.is_complete.Goals as goal
 

@@ -1,3 +1,4 @@
+-- `builder::streams::limit_and_turn`.
 use mathlib.Core.Path.{◌∙◌, ap, ap₂}
 use mathlib.Core.Bool.{Bool}
 use Prim.Native.Nat.{ℕ}

@@ -1,3 +1,4 @@
+-- `builder::streams::limit_for`.
 use Rattle.builder.proofs.streams.Laws.{dc_limit, ac_limit}
 use Rattle.builder.proofs.streams.limit_for.Goals as goal
 

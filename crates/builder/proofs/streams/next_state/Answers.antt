@@ -1,3 +1,4 @@
+-- `builder::streams::next_state`.
 use mathlib.Core.Bool.{true, false}
 use Prim.Native.Nat.{◌-◌}
 use Rattle.builder.specs.Views.{builder_says}

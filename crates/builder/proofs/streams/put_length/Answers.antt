@@ -1,3 +1,4 @@
+-- `builder::streams::put_length`.
 use native.Mathlib.Omega.{arith}
 use Prim.Native.Nat.{◌-◌, ◌/◌, ◌%◌}
 use lib.ListN.{length-set}

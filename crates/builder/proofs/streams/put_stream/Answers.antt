@@ -1,3 +1,4 @@
+-- `builder::streams::put_stream`.
 use mathlib.Core.Path.{refl, ◌∙◌, ap}
 use mathlib.Core.Bool.{true, false}
 use native.Mathlib.Omega.{arith}
@@ -38,7 +39,7 @@ overflow_add-at c =
     let x = e.before in
     let a = x.before.before.before.args in
     let g = puts a.width a.height (builder_says a.b) (is_ac a.kind) a.slice (length a.s.now) (length a.out.now) (omega (arith, x.stream_number-x.ensures, e.if-x-gt0.false)) in
-    omega (arith, g.room, x.before.before.before.well-formed.1.1.1.1.1.1.0)
+    omega (arith, g.room, x.before.before.before.well_formed.1.1.1.1.1.1.0)
 
 pub copy_in-requires : goal.copy_in-requires
 copy_in-requires c =
@@ -60,7 +61,7 @@ overflow_add-at-2 c =
     let x = e.before in
     let a = x.before.before.before.args in
     let g = puts a.width a.height (builder_says a.b) (is_ac a.kind) a.slice (length a.s.now) (length a.out.now) (omega (arith, x.stream_number-x.ensures, e.if-x-gt0.false)) in
-    omega (arith, g.room, x.before.before.before.well-formed.1.1.1.1.1.1.0)
+    omega (arith, g.room, x.before.before.before.well_formed.1.1.1.1.1.1.0)
 
 pub overflow_add-at-3 : goal.overflow_add-at-3
 overflow_add-at-3 c =
@@ -68,7 +69,7 @@ overflow_add-at-3 c =
     let x = e.before in
     let a = x.before.before.before.args in
     let g = puts a.width a.height (builder_says a.b) (is_ac a.kind) a.slice (length a.s.now) (length a.out.now) (omega (arith, x.stream_number-x.ensures, e.if-x-gt0.false)) in
-    omega (arith, g.room, x.before.before.before.well-formed.1.1.1.1.1.1.0)
+    omega (arith, g.room, x.before.before.before.well_formed.1.1.1.1.1.1.0)
 
 pub next_state-requires : goal.next_state-requires
 next_state-requires c =

@@ -1,3 +1,4 @@
+-- `builder::streams::stream_number`.
 use mathlib.Core.Path.{sym, ◌∙◌}
 use Rattle.ask.specs.Numbers.{no_room}
 use Rattle.ask.proofs.FirstNo.{yes, no}

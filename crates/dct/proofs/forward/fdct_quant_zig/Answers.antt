@@ -1,3 +1,4 @@
+-- `dct::forward::fdct_quant_zig`: the three steps' equations, one after the other. Assumes nothing.
 use mathlib.Core.Path.{◌∙◌, ap}
 use lib.IntN.{ℤ}
 use mir.Facts.{to_z-of_z}

@@ -1,3 +1,4 @@
+-- `dct::forward::fdct_quant_zig8`: the shared path on the loaded lanes. Assumes nothing.
 use borrow.Author.Rules.{sfits_of}
 use mathlib.Core.Bool.{false}
 use Rattle.dct.proofs.Joined.{joined}

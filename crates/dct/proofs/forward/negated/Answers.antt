@@ -1,3 +1,4 @@
+-- `dct::forward::negated`: a level that is no negative number has a negation of 16 bits. Assumes nothing.
 use mathlib.Core.Path.{◌≡◌, ap, ◌∙◌}
 use lib.IntN.{ℤ, pos, neg_ℤ, ◌-ℤ◌}
 use mir.Syntax.{w16}

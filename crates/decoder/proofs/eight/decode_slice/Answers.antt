@@ -1,3 +1,4 @@
+-- `decoder::eight::decode_slice`.
 use mathlib.Core.Path.{◌≡◌, refl}
 use native.Mathlib.Omega.{arith}
 use Rattle.calls.specs.Arguments.{eight, Call, Buffers, buffers}

@@ -1,3 +1,4 @@
+-- `decoder::eight::slice`: one storing pass after the other.
 use Prim.Native.Nat.{◌≤◌}
 use native.Mathlib.Omega.{arith}
 use Rattle.calls.specs.Arguments.{eight, buffers}

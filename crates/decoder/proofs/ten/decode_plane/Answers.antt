@@ -1,3 +1,4 @@
+-- `decoder::ten::decode_plane`.
 use mathlib.Core.Path.{◌≡◌, refl}
 use native.Mathlib.Omega.{arith}
 use Rattle.calls.specs.Arguments.{ten, buffers}

@@ -1,3 +1,4 @@
+-- `decoder::ten::decode_slice`.
 use mathlib.Core.Path.{◌≡◌, refl}
 use native.Mathlib.Omega.{arith}
 use Rattle.calls.specs.Arguments.{ten, Call, Buffers, buffers}

@@ -1,3 +1,4 @@
+-- `decoder::ten::slice`: one storing pass after the other.
 use Prim.Native.Nat.{◌≤◌}
 use native.Mathlib.Omega.{arith}
 use Rattle.calls.specs.Arguments.{ten, buffers}

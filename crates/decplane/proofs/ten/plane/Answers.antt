@@ -1,3 +1,4 @@
+-- `decplane::ten::plane`: an invariant for each of the two loops, over the blocks so far.
 use mathlib.Core.Path.{◌∙◌}
 use mathlib.Core.Bool.{not}
 use Prim.Native.Nat.{◌+◌, ◌-◌, ◌*◌, ◌≤◌}

@@ -1,3 +1,4 @@
+-- `encoder::eight::encode_slice`.
 use mathlib.Core.Path.{◌≡◌, refl, sym, ◌∙◌}
 use native.Mathlib.Omega.{arith}
 use Rattle.calls.specs.Arguments.{eight, Call, PerStream, Buffers, buffers}

@@ -1,3 +1,4 @@
+-- `encoder::eight::slice`: one call of the plane coder after the other.
 use mathlib.Core.Path.{◌∙◌}
 use Prim.Native.Nat.{◌<◌}
 use Rattle.calls.specs.Arguments.{eight, buffers}

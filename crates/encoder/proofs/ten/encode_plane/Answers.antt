@@ -1,3 +1,4 @@
+-- `encoder::ten::encode_plane`.
 use mathlib.Core.Path.{◌≡◌, refl, sym, ◌∙◌}
 use native.Mathlib.Omega.{arith}
 use Rattle.calls.specs.Arguments.{ten, Settings, Plane, one_plane, PerStream, Buffers, buffers}

@@ -1,3 +1,4 @@
+-- `encoder::ten::encode_slice`.
 use mathlib.Core.Path.{◌≡◌, refl, sym, ◌∙◌}
 use native.Mathlib.Omega.{arith}
 use Rattle.calls.specs.Arguments.{ten, Call, PerStream, Buffers, buffers}

@@ -1,3 +1,4 @@
+-- `encplane::ten::plane`: an invariant for each of the two loops, over the blocks so far.
 use mathlib.Core.Path.{◌≡◌, ◌∙◌}
 use Prim.Native.Nat.{◌+◌, ◌-◌, ◌*◌, ◌≤◌}
 use native.Mathlib.Omega.{arith}

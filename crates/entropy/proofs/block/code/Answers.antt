@@ -1,3 +1,4 @@
+-- `entropy::block::code`.
 use mathlib.Core.Path.{ap, ◌∙◌}
 use mir.Facts.{to_z-of_z}
 use Rattle.scalar.proofs.Laws.{wide16, back16}

@@ -1,3 +1,4 @@
+-- `entropy::block::coded_dc`.
 use mathlib.Core.Path.{ap, ap₂, ◌∙◌}
 use lib.IntN.{ℤ}
 use borrow.Author.Rules.{sfits_of}

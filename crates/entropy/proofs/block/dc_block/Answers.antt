@@ -1,3 +1,4 @@
+-- `entropy::block::dc_block`.
 use mathlib.Core.Path.{◌≡◌, sym, ap, ◌∙◌}
 use native.Mathlib.Omega.{arith}
 use mir.Syntax.{w32}

@@ -1,3 +1,4 @@
+-- `entropy::block::half_step`.
 use mathlib.Core.Path.{sym, ap, ◌∙◌}
 use Prim.Native.Nat.{ℕ}
 use lib.IntN.{pos}

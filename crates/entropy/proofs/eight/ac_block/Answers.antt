@@ -1,3 +1,4 @@
+-- `entropy::eight::ac_block`: a turn codes the next non-zero place; the mask of the places after it is left.
 use mathlib.Core.Path.{◌≡◌, refl, ap, ◌∙◌}
 use Prim.Native.Nat.{ℕ, zero, suc, ◌+◌, ◌-◌, ◌^◌, ◌≤◌, ◌<◌}
 use native.Mathlib.Omega.{arith}

@@ -1,3 +1,4 @@
+-- `entropy::eight::ac_block`: a turn codes the next non-zero place; the mask of the places after it is left.
 use Prim.Native.Nat.{◌-◌}
 use Rattle.entropy.proofs.block.Walk.{Going}
 use Rattle.entropy.proofs.eight.ac_block.Given as goal

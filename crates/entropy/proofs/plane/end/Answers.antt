@@ -1,3 +1,4 @@
+-- `entropy::plane::end`.
 use mathlib.Core.Path.{ap, ◌∙◌}
 use Rattle.bitwriter.specs.declared.BitAcc.{BitAcc}
 use Rattle.bitwriter.proofs.Writer.{whole_room, wrote_whole, whole_place}

@@ -1,3 +1,4 @@
+-- `entropy::short::pair`.
 use mathlib.Core.Path.{◌≡◌, ap, ◌∙◌}
 use mir.Facts.{to_z-of_z}
 use Rattle.bits.specs.Signed.{code_of}

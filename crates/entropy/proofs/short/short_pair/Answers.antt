@@ -1,3 +1,4 @@
+-- `entropy::short::short_pair`.
 use Prim.Native.Nat.{◌-◌}
 use native.Mathlib.Omega.{arith}
 use lib.ListN.{get_or}

@@ -1,3 +1,4 @@
+-- `fdct::level_shift::level` puts a row in each turn of the loop inside. Assumes nothing.
 use mathlib.Core.Path.{◌≡◌, refl, ap, ◌∙◌}
 use mathlib.Core.List.{List}
 use Prim.Native.Nat.{◌-◌, ◌*◌}
@@ -30,7 +31,7 @@ pub loop-h-init : goal.loop-h-init
 loop-h-init c =
     let l = c.before in
     let p = l.before in
-    two_begin (levelled p.before.args.t1 p.splat-adding.result) l.loop-p.c l.loop-p.p l.loop-p.invariant.0
+    two_begin (levelled p.before.args.b p.splat-adding.result) l.loop-p.c l.loop-p.p l.loop-p.invariant.0
 
 pub loop-h-preserved : goal.loop-h-preserved
 loop-h-preserved c =
@@ -41,7 +42,7 @@ loop-h-preserved c =
     let o = j.before in
     let l = o.before in
     let p = l.before in
-    two_turn (levelled p.before.args.t1 p.splat-adding.result) j.loop-h.c l.loop-p.p j.loop-h.h o.loop-p-test.true i.loop-h-test.true j.loop-h.invariant c.put.ensures
+    two_turn (levelled p.before.args.b p.splat-adding.result) j.loop-h.c l.loop-p.p j.loop-h.h o.loop-p-test.true i.loop-h-test.true j.loop-h.invariant c.put.ensures
     (a.adds.ensures ∙ ap (λ (y : List ℤ). mm_adds_epi16 y p.splat-adding.result) x.row.ensures)
 
 pub loop-p-preserved : goal.loop-p-preserved
@@ -49,16 +50,16 @@ loop-p-preserved c =
     let j = c.before in
     let l = j.before.before in
     let p = l.before in
-    (two_end (levelled p.before.args.t1 p.splat-adding.result) j.loop-h.c l.loop-p.p j.loop-h.h c.loop-h-test.false j.loop-h.invariant, l.loop-p.invariant.1)
+    (two_end (levelled p.before.args.b p.splat-adding.result) j.loop-h.c l.loop-p.p j.loop-h.h c.loop-h-test.false j.loop-h.invariant, l.loop-p.invariant.1)
 
 pub returns : goal.returns
 returns c =
     let l = c.before in
     let p = l.before in
     let s = p.before in
-    put_done (levelled s.args.t1 p.splat-adding.result) l.loop-p.c (2 * l.loop-p.p) (omega arith) l.loop-p.invariant.0
-    ∙ ap (λ (y : List ℤ). block_of (levelled s.args.t1 y)) (l.loop-p.invariant.1 ∙ ap mm_set1_epi16 (to_z-of_z s.ranges.add))
-    ∙ level_law s.args.t1 s.args.add
+    put_done (levelled s.args.b p.splat-adding.result) l.loop-p.c (2 * l.loop-p.p) (omega arith) l.loop-p.invariant.0
+    ∙ ap (λ (y : List ℤ). block_of (levelled s.args.b y)) (l.loop-p.invariant.1 ∙ ap mm_set1_epi16 (to_z-of_z s.ranges.add))
+    ∙ level_law s.args.b s.args.add
 
 pub overflow_mul-r : goal.overflow_mul-r
 overflow_mul-r c = omega arith

@@ -1,3 +1,4 @@
+-- `fdct::level_shift::level` puts a row in each turn of the loop inside. Assumes nothing.
 use mathlib.Core.Path.{◌≡◌}
 use mathlib.Core.List.{List}
 use Prim.Native.Nat.{ℕ, ◌-◌, ◌*◌}
@@ -15,7 +16,7 @@ abbrev pub levelled : List ℤ → List ℤ → ℕ → List ℤ
 levelled b adding r = mm_adds_epi16 (row_of b r) adding
 
 abbrev pub invariant-loop-h : goal.invariant-loop-h
-invariant-loop-h l = TwoRows (levelled l.b l.adding) l.c l.initial.c l.h
+invariant-loop-h l = TwoRows (levelled l.b l.adding) l.c l.p l.h
 
 abbrev pub decreases-loop-h : goal.decreases-loop-h
 decreases-loop-h l = 2 - l.h

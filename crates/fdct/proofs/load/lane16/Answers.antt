@@ -1,3 +1,4 @@
+-- A sample's lane is not negative. Assumes nothing.
 use native.Mathlib.Omega.{arith}
 use mir.Syntax.{w16}
 use mir.Facts.{to_z_pos}

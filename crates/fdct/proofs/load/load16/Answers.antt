@@ -1,3 +1,4 @@
+-- `fdct::load::load16` puts a row in each turn. Assumes nothing.
 use mathlib.Core.Path.{refl, ◌∙◌}
 use Prim.Native.Nat.{ℕ, ◌-◌, ◌/◌}
 use native.Mathlib.Omega.{arith}
@@ -13,13 +14,13 @@ pub overflow_mul-r : goal.overflow_mul-r
 overflow_mul-r c =
     let o = c.before in
     let s = o.before.before.before in
-    omega (arith, rows_fit o.before.loop-r.r s.args.stride o.loop-r-test.true, s.requires, s.well-formed)
+    omega (arith, rows_fit o.before.loop-r.r s.args.stride o.loop-r-test.true, s.requires, s.well_formed)
 
 pub row16-requires : goal.row16-requires
 row16-requires c =
     let o = c.before in
     let s = o.before.before.before in
-    omega (arith, rows_fit o.before.loop-r.r s.args.stride o.loop-r-test.true, s.requires, s.well-formed)
+    omega (arith, rows_fit o.before.loop-r.r s.args.stride o.loop-r-test.true, s.requires, s.well_formed)
 
 pub loop-r-preserved : goal.loop-r-preserved
 loop-r-preserved c =

@@ -1,3 +1,4 @@
+-- `fdct::load::load8` puts a row in each turn. Assumes nothing.
 use mathlib.Core.List.{List}
 use Prim.Native.Nat.{ℕ, ◌-◌, ◌*◌}
 use lib.IntN.{ℤ}

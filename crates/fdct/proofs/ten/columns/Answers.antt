@@ -1,3 +1,4 @@
+-- `fdct::ten::columns`: each stage's rows are its lanes, and the rows that are joined are the columns. Assumes nothing.
 use mathlib.Core.Path.{◌∙◌}
 use Rattle.fdct.specs.column.Rows.{butterfly_rows}
 use Rattle.fdct.proofs.column.Lanewise.{eq8}
@@ -19,7 +20,7 @@ returns c =
     let r1 = r2.before.before in
     let s = r1.before.before in
     c.joined.ensures
-    ∙ columns_law s.args.shift s.args.t1
+    ∙ columns_law s.args.shift s.args.b
     (b.butterfly-s.ensures
     ∙ eq8 butterfly_rows r1.row.ensures r2.row-2.ensures r3.row-3.ensures r4.row-4.ensures r5.row-5.ensures r6.row-6.ensures r7.row-7.ensures r8.row-8.ensures)
     e.even-e.ensures o.odd-o.ensures

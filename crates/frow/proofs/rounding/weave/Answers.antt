@@ -1,3 +1,4 @@
+-- `frow::rounding::weave`: eight lanes, each read back from its bits. Assumes nothing.
 use borrow.Author.Rules.{sfits_of}
 use Rattle.shuffles.proofs.Turns.{eight_back}
 use Rattle.frow.specs.rounding.Tail.{weave_of}

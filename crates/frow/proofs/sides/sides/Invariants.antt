@@ -1,3 +1,4 @@
+-- `frow::sides::sides` puts a row of sums and one of differences in each turn. Assumes nothing.
 use mathlib.Core.List.{List}
 use Prim.Native.Nat.{ℕ, ◌-◌, ◌*◌}
 use lib.IntN.{ℤ}
@@ -14,7 +15,7 @@ abbrev pub D : List ℤ → ℕ → List ℤ
 D c r = row_diffs_of (row_of c r)
 
 abbrev pub invariant-loop-h : goal.invariant-loop-h
-invariant-loop-h l = TwoRows (S l.c) l.sums l.initial.diffs l.h × TwoRows (D l.c) l.diffs l.initial.diffs l.h
+invariant-loop-h l = TwoRows (S l.c) l.sums l.p l.h × TwoRows (D l.c) l.diffs l.p l.h
 
 abbrev pub decreases-loop-h : goal.decreases-loop-h
 decreases-loop-h l = 2 - l.h

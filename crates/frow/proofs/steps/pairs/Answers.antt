@@ -1,3 +1,4 @@
+-- `frow::steps::pairs` fills the places in order. Assumes nothing.
 use borrow.Author.Rules.{rules, sfits_of}
 use mathlib.Core.Path.{◌≡◌, refl, ap, ◌∙◌}
 use Prim.Native.Nat.{◌+◌, ◌-◌, ◌*◌}
@@ -21,7 +22,7 @@ loop-i-preserved c =
     let d1 = d2.before in
     let l = d1.before.before in
     let a = l.before.args in
-    filled_next 32 (pair_at a.t1 a.t2) l.loop-i.m l.loop-i.i (omega arith) l.loop-i.invariant
+    filled_next 32 (pair_at a.x a.t) l.loop-i.m l.loop-i.i (omega arith) l.loop-i.invariant
     (lane4 madd_of (sfits_of d1.madd1-arg-1.given) (sfits_of d2.madd1-arg-in-loop-i-1.given) (sfits_of d3.madd1-arg-in-loop-i-2-1.given) (sfits_of d4.madd1-arg-in-loop-i-3-1.given) (sfits_of c.madd1.type_inv) c.madd1.ensures
     ∙ swapped _ _ _ _)
 
@@ -29,7 +30,7 @@ pub returns : goal.returns
 unfolding forward_pairs_of
 returns c =
     let l = c.before in
-    filled_done 32 (pair_at l.before.args.t1 l.before.args.t2) l.loop-i.m l.loop-i.i (omega arith) l.loop-i.invariant
+    filled_done 32 (pair_at l.before.args.x l.before.args.t) l.loop-i.m l.loop-i.i (omega arith) l.loop-i.invariant
 
 pub loop-i-init : goal.loop-i-init
 loop-i-init c = (search rules, (refl, refl))

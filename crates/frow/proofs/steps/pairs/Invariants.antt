@@ -1,3 +1,4 @@
+-- `frow::steps::pairs` fills the places in order. Assumes nothing.
 use Prim.Native.Nat.{◌-◌}
 use Rattle.scalar.proofs.Fill.{Filled}
 use Rattle.frow.specs.steps.Order.{pair_at}

@@ -1,3 +1,4 @@
+-- `frow::steps::swapped` puts a row in each turn. Assumes nothing.
 use mathlib.Core.Path.{refl, ap, ◌∙◌}
 use mathlib.Core.List.{List}
 use Prim.Native.Nat.{◌-◌}
@@ -16,14 +17,14 @@ loop-r-preserved c =
     let x = h.before in
     let l = x.before.before.before.before in
     let s = l.before in
-    put_turn (swaps s.args.t1) l.loop-r.x l.loop-r.r (omega arith) l.loop-r.invariant c.put.ensures
+    put_turn (swaps s.args.a) l.loop-r.x l.loop-r.r (omega arith) l.loop-r.invariant c.put.ensures
     (h.shuffle32_16.ensures ∙ ap (λ (y : List ℤ). mm_shuffle_epi32_16 y 177) x.row.ensures)
 
 pub returns : goal.returns
 returns c =
     let l = c.before in
     let s = l.before in
-    put_done (swaps s.args.t1) l.loop-r.x l.loop-r.r (omega arith) l.loop-r.invariant
+    put_done (swaps s.args.a) l.loop-r.x l.loop-r.r (omega arith) l.loop-r.invariant
 
 pub loop-r-init : goal.loop-r-init
 loop-r-init c = (omega arith, (refl, refl))

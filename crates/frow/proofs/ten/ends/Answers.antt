@@ -1,3 +1,4 @@
+-- `frow::ten::ends` puts a row in each turn. Assumes nothing.
 use mathlib.Core.Path.{refl}
 use Prim.Native.Nat.{◌-◌}
 use native.Mathlib.Omega.{arith}
@@ -18,15 +19,15 @@ loop-r-preserved c =
     let n0 = n1.before.before in
     let l = n0.before.before.before in
     let a = l.before.args in
-    put_turn (end_row a.t1 a.t2 a.t3 a.t4) l.loop-r.w l.loop-r.r (omega arith) l.loop-r.invariant c.put.ensures
-    (end_law a.t1 a.t2 a.t3 a.t4 l.loop-r.r n0.wide.ensures n1.wide-in-loop-r.ensures e.rounded-even.ensures n2.wide-in-loop-r-2.ensures n3.wide-in-loop-r-3.ensures o.rounded-odd.ensures
+    put_turn (end_row a.m0 a.m1 a.m2 a.m3) l.loop-r.w l.loop-r.r (omega arith) l.loop-r.invariant c.put.ensures
+    (end_law a.m0 a.m1 a.m2 a.m3 l.loop-r.r n0.wide.ensures n1.wide-in-loop-r.ensures e.rounded-even.ensures n2.wide-in-loop-r-2.ensures n3.wide-in-loop-r-3.ensures o.rounded-odd.ensures
     p.packs32.ensures v.weave.ensures)
 
 pub returns : goal.returns
 returns c =
     let l = c.before in
     let a = l.before.args in
-    put_done (end_row a.t1 a.t2 a.t3 a.t4) l.loop-r.w l.loop-r.r (omega arith) l.loop-r.invariant
+    put_done (end_row a.m0 a.m1 a.m2 a.m3) l.loop-r.w l.loop-r.r (omega arith) l.loop-r.invariant
 
 pub loop-r-init : goal.loop-r-init
 loop-r-init c = (omega arith, (refl, refl))

@@ -1,3 +1,4 @@
+-- `frow::ten::ends` puts a row in each turn. Assumes nothing.
 use Prim.Native.Nat.{◌-◌}
 use Rattle.lanes.proofs.rows.Loops.{RowsPut}
 use Rattle.frow.specs.rounding.Tail.{end_row}

@@ -1,3 +1,4 @@
+-- `frow::ten::sides` puts a row of sums and one of differences in each turn. Assumes nothing.
 use mathlib.Core.Path.{◌≡◌, refl, ap, ◌∙◌}
 use Prim.Native.Nat.{◌+◌, ◌-◌, ◌*◌}
 use native.Mathlib.Omega.{arith}
@@ -12,7 +13,7 @@ use Rattle.frow.proofs.ten.sides.Goals as goal
 pub loop-h-init : goal.loop-h-init
 loop-h-init c =
     let l = c.before in
-    let a = l.before.args.t1 in
+    let a = l.before.args.c in
     (two_begin (S a) l.loop-p.sums l.loop-p.p l.loop-p.invariant.0, two_begin (D a) l.loop-p.diffs l.loop-p.p l.loop-p.invariant.1)
 
 pub loop-h-preserved : goal.loop-h-preserved
@@ -24,7 +25,7 @@ loop-h-preserved c =
     let j = i.before in
     let o = j.before in
     let l = o.before in
-    let a = l.before.args.t1 in
+    let a = l.before.args.c in
     let p = l.loop-p.p in
     let h = j.loop-h.h in
     let e : v.row_sides-v.result ≡ row_sides_of (row_of a (2 * p + h)) = v.row_sides-v.ensures ∙ ap row_sides_of x.row.ensures in (
@@ -36,7 +37,7 @@ pub loop-p-preserved : goal.loop-p-preserved
 loop-p-preserved c =
     let j = c.before in
     let l = j.before.before in
-    let a = l.before.args.t1 in (
+    let a = l.before.args.c in (
       two_end (S a) j.loop-h.sums l.loop-p.p j.loop-h.h c.loop-h-test.false j.loop-h.invariant.0,
       two_end (D a) j.loop-h.diffs l.loop-p.p j.loop-h.h c.loop-h-test.false j.loop-h.invariant.1,
     )
@@ -45,7 +46,7 @@ pub returns : goal.returns
 unfolding make_blocks
 returns c =
     let l = c.before in
-    let a = l.before.args.t1 in
+    let a = l.before.args.c in
     blocks_eq
     (put_done (S a) l.loop-p.sums (2 * l.loop-p.p) (omega arith) l.loop-p.invariant.0)
     (put_done (D a) l.loop-p.diffs (2 * l.loop-p.p) (omega arith) l.loop-p.invariant.1)

@@ -22,7 +22,7 @@ loop-i-preserved c =
     let a = s.before in
     let n = a.before in
     let l = n.before in
-    let v = l.before.args.t1 in
+    let v = l.before.args.v in
     let level = back w16 l.before.args.level in
     filled_next 64 (at level v) l.loop-i.p l.loop-i.i n.loop-i-test.true l.loop-i.invariant
     (c.packus1.ensures
@@ -35,7 +35,7 @@ pub returns : goal.returns
 returns c =
     let l = c.before in
     let s = l.before in
-    let v = s.args.t1 in
+    let v = s.args.v in
     filled_done 64 (at (back w16 s.args.level) v) l.loop-i.p l.loop-i.i (omega arith) l.loop-i.invariant
     ∙ ap (λ (z : ℤ). tab 64 (at z v)) (to_z-of_z s.ranges.level)
     ∙ level_samples false s.args.level v

@@ -6,4 +6,4 @@ pub returns : goal.returns
 returns c =
     let v = c.before in
     let w = v.before in
-    passes true w.before.before.args.t1 w.paired_rows-w.ensures v.columns-v.ensures c.mirror.ensures
+    passes true w.before.before.args.b w.paired_rows-w.ensures v.columns-v.ensures c.mirror.ensures

@@ -16,15 +16,15 @@ loop-r-preserved c =
     let n = x0.before.before in
     let l = n.before in
     let s = l.before.args in
-    put_turn (row_at (pos 2048) 12 s.t1 s.t2 s.t3 s.t4) l.loop-r.w l.loop-r.r n.loop-r-test.true l.loop-r.invariant c.put.ensures
-    (row_of_calls (pos 2048) 12 s.t1 s.t2 s.t3 s.t4 l.loop-r.r x0.wide.ensures x1.wide-in-loop-r.ensures x2.wide-in-loop-r-2.ensures x3.wide-in-loop-r-3.ensures y.row_sums-y.ensures)
+    put_turn (row_at (pos 2048) 12 s.m0 s.m1 s.m2 s.m3) l.loop-r.w l.loop-r.r n.loop-r-test.true l.loop-r.invariant c.put.ensures
+    (row_of_calls (pos 2048) 12 s.m0 s.m1 s.m2 s.m3 l.loop-r.r x0.wide.ensures x1.wide-in-loop-r.ensures x2.wide-in-loop-r-2.ensures x3.wide-in-loop-r-3.ensures y.row_sums-y.ensures)
 
 pub returns : goal.returns
 returns c =
     let l = c.before in
     let s = l.before.args in
-    put_done (row_at (pos 2048) 12 s.t1 s.t2 s.t3 s.t4) l.loop-r.w l.loop-r.r (omega arith) l.loop-r.invariant
-    ∙ sums_law (pos 2048) 12 s.t1 s.t2 s.t3 s.t4
+    put_done (row_at (pos 2048) 12 s.m0 s.m1 s.m2 s.m3) l.loop-r.w l.loop-r.r (omega arith) l.loop-r.invariant
+    ∙ sums_law (pos 2048) 12 s.m0 s.m1 s.m2 s.m3
 
 pub loop-r-init : goal.loop-r-init
 loop-r-init c = (omega arith, (refl, refl))

@@ -1,3 +1,4 @@
+-- `judge::verdict::plane`: the questions, then the judge.
 use mathlib.Core.Path.{◌≡◌, sym, ◌∙◌}
 use native.Mathlib.Omega.{arith}
 use lib.ListN.{replicate, length-replicate}

@@ -1,3 +1,4 @@
+-- `judge::verdict::slice`: the questions, then the judge.
 use mathlib.Core.Path.{◌≡◌}
 use mathlib.Core.List.{List}
 use Prim.Native.Nat.{ℕ}

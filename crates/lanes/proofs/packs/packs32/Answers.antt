@@ -1,3 +1,4 @@
+use mir.Syntax.{w16, w32}
 use borrow.Author.Rules.{sfits_of}
 use mathlib.Core.Path.{refl}
 use Prim.Native.Nat.{◌-◌}
@@ -16,7 +17,7 @@ loop-k-preserved c =
     let l = c.before.before.before in
     let a = l.before.args in
     filled_next 8 (λ i. sat16 (lane (a.a ++ a.b) i)) l.loop-k.r l.loop-k.k (omega arith) l.loop-k.invariant
-    (lane1 sat16 (sfits_of c.before.joined.type_inv) (sfits_of c.sat.type_inv) c.sat.ensures ∙ ap sat16 c.before.joined.ensures)
+    (lane1 {v = w16} {w = w32} sat16 (sfits_of c.before.joined.type_inv) (sfits_of c.sat.type_inv) c.sat.ensures ∙ ap sat16 c.before.joined.ensures)
 
 pub returns : goal.returns
 unfolding mm_packs_epi32

@@ -1,3 +1,4 @@
+use mir.Syntax.{w16}
 use borrow.Author.Rules.{sfits_of}
 use mathlib.Core.Path.{refl}
 use Prim.Native.Nat.{◌-◌}
@@ -14,14 +15,14 @@ pub loop-k-preserved : goal.loop-k-preserved
 loop-k-preserved c =
     let l = c.before.before.before in
     let a = l.before.args in
-    filled_next 8 (λ i. packus_of (lane a.t1 i)) l.loop-k.r l.loop-k.k (omega arith) l.loop-k.invariant (c.packus1.ensures ∙ ap packus_of (to_z-of_z (sfits_of c.before.packus1-arg-1.given)))
+    filled_next 8 (λ i. packus_of (lane a.a i)) l.loop-k.r l.loop-k.k (omega arith) l.loop-k.invariant (c.packus1.ensures ∙ ap packus_of (to_z-of_z {w = w16} (sfits_of c.before.packus1-arg-1.given)))
 
 pub returns : goal.returns
 unfolding mm_packus_epi16
 returns c =
     let l = c.before in
     let a = l.before.args in
-    filled_done 8 (λ i. packus_of (lane a.t1 i)) l.loop-k.r l.loop-k.k (omega arith) l.loop-k.invariant
+    filled_done 8 (λ i. packus_of (lane a.a i)) l.loop-k.r l.loop-k.k (omega arith) l.loop-k.invariant
 
 pub loop-k-init : goal.loop-k-init
 loop-k-init c = (omega arith, (refl, refl))

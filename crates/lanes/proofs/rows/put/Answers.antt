@@ -1,3 +1,4 @@
+use mir.Syntax.{w16}
 use borrow.Author.Rules.{sfits_of}
 use mathlib.Core.Path.{◌≡◌, refl, ap, ◌∙◌}
 use Prim.Native.Nat.{ℕ, ◌-◌, ◌*◌}
@@ -17,7 +18,7 @@ pub loop-k-preserved : goal.loop-k-preserved
 loop-k-preserved c =
     let l = c.before.before in
     let a = l.before.args in
-    (omega arith, stores_next (lane a.t3) a.b.now (8 * a.r) l.loop-k.k l.loop-k.invariant.1 (to_z-of_z (sfits_of c.b-1.given)))
+    (omega arith, stores_next (lane a.x) a.b.now (8 * a.r) l.loop-k.k l.loop-k.invariant.1 (to_z-of_z {w = w16} (sfits_of c.b-1.given)))
 
 pub returns : goal.returns
 unfolding put_of
@@ -25,7 +26,7 @@ returns c =
     let l = c.before in
     let a = l.before.args in
     let e : l.loop-k.k ≡ 8 = omega arith in
-    l.loop-k.invariant.1 ∙ ap (λ (n : ℕ). sets a.b.now (8 * a.r) (tab n (lane a.t3))) e
+    l.loop-k.invariant.1 ∙ ap (λ (n : ℕ). sets a.b.now (8 * a.r) (tab n (lane a.x))) e
 
 pub offset_bounds-x-k : goal.offset_bounds-x-k
 offset_bounds-x-k c = omega arith

@@ -1,3 +1,4 @@
+use mir.Syntax.{w16}
 use borrow.Author.Rules.{sfits_of}
 use mathlib.Core.Path.{refl}
 use Prim.Native.Nat.{◌+◌, ◌-◌, ◌*◌}
@@ -12,7 +13,7 @@ pub loop-k-preserved : goal.loop-k-preserved
 loop-k-preserved c =
     let l = c.before.before in
     let a = l.before.args in
-    filled_next 8 (λ i. lane a.b.now (8 * a.r + i)) l.loop-k.x l.loop-k.k (omega arith) l.loop-k.invariant (to_z-of_z (sfits_of c.x-1.given))
+    filled_next 8 (λ i. lane a.b.now (8 * a.r + i)) l.loop-k.x l.loop-k.k (omega arith) l.loop-k.invariant (to_z-of_z {w = w16} (sfits_of c.x-1.given))
 
 pub returns : goal.returns
 unfolding row_of

@@ -1,3 +1,4 @@
+use mir.Syntax.{w16}
 use borrow.Author.Rules.{sfits_of}
 use mathlib.Core.Path.{refl}
 use Prim.Native.Nat.{◌-◌}
@@ -13,14 +14,14 @@ pub loop-k-preserved : goal.loop-k-preserved
 loop-k-preserved c =
     let l = c.before.before.before.before in
     let a = l.before.args in
-    turn2 8 or_of a.t1 a.t2 l.loop-k.r l.loop-k.k (omega arith) l.loop-k.invariant (sfits_of c.before.before.or1-arg-1.given) (sfits_of c.before.or1-arg-in-loop-k-1.given) (sfits_of c.or1.type_inv) c.or1.ensures
+    turn2 {v = w16} {w = w16} 8 or_of a.a a.b l.loop-k.r l.loop-k.k (omega arith) l.loop-k.invariant (sfits_of c.before.before.or1-arg-1.given) (sfits_of c.before.or1-arg-in-loop-k-1.given) (sfits_of c.or1.type_inv) c.or1.ensures
 
 pub returns : goal.returns
 unfolding mm_or_si128
 returns c =
     let l = c.before in
     let a = l.before.args in
-    filled_done 8 (λ i. or_of (lane a.t1 i) (lane a.t2 i)) l.loop-k.r l.loop-k.k (omega arith) l.loop-k.invariant
+    filled_done 8 (λ i. or_of (lane a.a i) (lane a.b i)) l.loop-k.r l.loop-k.k (omega arith) l.loop-k.invariant
 
 pub loop-k-init : goal.loop-k-init
 loop-k-init c = (omega arith, (refl, refl))

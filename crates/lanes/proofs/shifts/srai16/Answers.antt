@@ -1,3 +1,4 @@
+use mir.Syntax.{w16}
 use borrow.Author.Rules.{sfits_of}
 use mathlib.Core.Path.{refl}
 use Prim.Native.Nat.{◌-◌}
@@ -13,14 +14,14 @@ pub loop-k-preserved : goal.loop-k-preserved
 loop-k-preserved c =
     let l = c.before.before.before in
     let a = l.before.args in
-    turn1 8 (λ x. sra_of x a.n) a.t1 l.loop-k.r l.loop-k.k (omega arith) l.loop-k.invariant (sfits_of c.before.sra16-arg-1.given) (sfits_of c.sra16.type_inv) c.sra16.ensures
+    turn1 {v = w16} {w = w16} 8 (λ x. sra_of x a.n) a.a l.loop-k.r l.loop-k.k (omega arith) l.loop-k.invariant (sfits_of c.before.sra16-arg-1.given) (sfits_of c.sra16.type_inv) c.sra16.ensures
 
 pub returns : goal.returns
 unfolding mm_srai_epi16
 returns c =
     let l = c.before in
     let a = l.before.args in
-    filled_done 8 (λ i. sra_of (lane a.t1 i) a.n) l.loop-k.r l.loop-k.k (omega arith) l.loop-k.invariant
+    filled_done 8 (λ i. sra_of (lane a.a i) a.n) l.loop-k.r l.loop-k.k (omega arith) l.loop-k.invariant
 
 pub loop-k-init : goal.loop-k-init
 loop-k-init c = (omega arith, (refl, refl))

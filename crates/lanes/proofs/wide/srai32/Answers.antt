@@ -1,3 +1,4 @@
+use mir.Syntax.{w32}
 use borrow.Author.Rules.{sfits_of}
 use mathlib.Core.Path.{refl}
 use Prim.Native.Nat.{◌-◌}
@@ -13,14 +14,14 @@ pub loop-k-preserved : goal.loop-k-preserved
 loop-k-preserved c =
     let l = c.before.before.before in
     let a = l.before.args in
-    turn1 4 (λ x. sra_of x a.n) a.t1 l.loop-k.r l.loop-k.k (omega arith) l.loop-k.invariant (sfits_of c.before.sra32-arg-1.given) (sfits_of c.sra32.type_inv) c.sra32.ensures
+    turn1 {v = w32} {w = w32} 4 (λ x. sra_of x a.n) a.a l.loop-k.r l.loop-k.k (omega arith) l.loop-k.invariant (sfits_of c.before.sra32-arg-1.given) (sfits_of c.sra32.type_inv) c.sra32.ensures
 
 pub returns : goal.returns
 unfolding mm_srai_epi32
 returns c =
     let l = c.before in
     let a = l.before.args in
-    filled_done 4 (λ i. sra_of (lane a.t1 i) a.n) l.loop-k.r l.loop-k.k (omega arith) l.loop-k.invariant
+    filled_done 4 (λ i. sra_of (lane a.a i) a.n) l.loop-k.r l.loop-k.k (omega arith) l.loop-k.invariant
 
 pub loop-k-init : goal.loop-k-init
 loop-k-init c = (omega arith, (refl, refl))

@@ -1,3 +1,4 @@
+use mir.Syntax.{w32}
 use borrow.Author.Rules.{sfits_of}
 use mathlib.Core.Path.{refl}
 use Prim.Native.Nat.{◌-◌}
@@ -13,14 +14,14 @@ pub loop-k-preserved : goal.loop-k-preserved
 loop-k-preserved c =
     let l = c.before.before.before.before in
     let a = l.before.args in
-    turn2 4 sub32_of a.t1 a.t2 l.loop-k.r l.loop-k.k (omega arith) l.loop-k.invariant (sfits_of c.before.before.sub32-arg-1.given) (sfits_of c.before.sub32-arg-in-loop-k-1.given) (sfits_of c.sub32.type_inv) c.sub32.ensures
+    turn2 {v = w32} {w = w32} 4 sub32_of a.a a.b l.loop-k.r l.loop-k.k (omega arith) l.loop-k.invariant (sfits_of c.before.before.sub32-arg-1.given) (sfits_of c.before.sub32-arg-in-loop-k-1.given) (sfits_of c.sub32.type_inv) c.sub32.ensures
 
 pub returns : goal.returns
 unfolding mm_sub_epi32
 returns c =
     let l = c.before in
     let a = l.before.args in
-    filled_done 4 (λ i. sub32_of (lane a.t1 i) (lane a.t2 i)) l.loop-k.r l.loop-k.k (omega arith) l.loop-k.invariant
+    filled_done 4 (λ i. sub32_of (lane a.a i) (lane a.b i)) l.loop-k.r l.loop-k.k (omega arith) l.loop-k.invariant
 
 pub loop-k-init : goal.loop-k-init
 loop-k-init c = (omega arith, (refl, refl))

@@ -1,3 +1,4 @@
+-- `outs::frame::complete_out`.
 use mathlib.Core.Path.{◌≡◌, sym, ap}
 use Rattle.builder.specs.streams.Views.{complete_says}
 use Rattle.builder.specs.declared.streams.CompleteAnswer.TheVariants as complete

@@ -1,3 +1,4 @@
+-- `outs::frame::frame_out`.
 use mathlib.Core.Path.{◌≡◌, sym, ap}
 use Rattle.parser.specs.Views.{frame_says}
 use Rattle.parser.specs.declared.FrameAnswer.TheVariants as frame

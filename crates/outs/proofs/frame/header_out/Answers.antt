@@ -1,3 +1,4 @@
+-- `outs::frame::header_out`.
 use mathlib.Core.Path.{◌≡◌, sym}
 use Rattle.builder.specs.declared.HeaderAnswer.TheVariants as header
 use Rattle.outs.proofs.frame.Laws.{header_refused, header_started}

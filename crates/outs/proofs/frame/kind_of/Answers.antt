@@ -1,3 +1,4 @@
+-- `outs::frame::kind_of`.
 use mathlib.Core.Path.{sym}
 use borrow.Author.Tests.{lt-ltb, le-ltb}
 use Rattle.outs.proofs.frame.kind_of.Goals as goal

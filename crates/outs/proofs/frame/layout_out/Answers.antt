@@ -1,3 +1,4 @@
+-- `outs::frame::layout_out`.
 use mathlib.Core.Path.{◌≡◌, sym, ap}
 use Rattle.layout.specs.Views.{layout_says}
 use Rattle.layout.specs.declared.LayoutAnswer.TheVariants as layout

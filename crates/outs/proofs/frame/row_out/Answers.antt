@@ -1,3 +1,4 @@
+-- `outs::frame::row_out`.
 use mathlib.Core.Path.{◌≡◌, sym, ap}
 use Rattle.layout.specs.Views.{row_says}
 use Rattle.layout.specs.declared.RowAnswer.TheVariants as rows

@@ -1,3 +1,4 @@
+-- `outs::frame::stream_out`.
 use mathlib.Core.Path.{◌≡◌, sym}
 use Rattle.builder.specs.declared.streams.StreamAnswer.TheVariants as stream
 use Rattle.outs.proofs.frame.Laws.{stream_refused, stream_next}

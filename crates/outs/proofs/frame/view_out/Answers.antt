@@ -1,3 +1,4 @@
+-- `outs::frame::view_out`.
 use mathlib.Core.Path.{◌≡◌, sym, ap}
 use Rattle.parser.specs.Views.{view_says}
 use Rattle.parser.specs.declared.ViewAnswer.TheVariants as view

@@ -1,3 +1,4 @@
+-- `outs::plane::coded_out`.
 use mathlib.Core.Path.{◌≡◌, sym, ap, ◌∙◌}
 use Rattle.calls.specs.Told.{content}
 use Rattle.questions.specs.answers.Code.{code_says}

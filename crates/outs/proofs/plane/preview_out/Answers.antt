@@ -1,3 +1,4 @@
+-- `outs::plane::preview_out`.
 use mathlib.Core.Path.{◌≡◌, sym, ap}
 use Rattle.calls.specs.Told.{content}
 use Rattle.preview.specs.Answer.{preview_says}

@@ -1,3 +1,4 @@
+-- `outs::plane::read_out`.
 use mathlib.Core.Path.{◌≡◌, sym, ap, ◌∙◌}
 use Rattle.calls.specs.Told.{content}
 use Rattle.questions.specs.answers.Read.{read_says}

@@ -1,3 +1,4 @@
+-- `outs::plane::size_out`.
 use mathlib.Core.Path.{◌≡◌, sym, ap}
 use Rattle.questions.specs.answers.Size.{size_says}
 use Rattle.questions.specs.declared.answers.SizeAnswer.TheVariants as size

@@ -1,3 +1,4 @@
+-- `parser::head::format_at`.
 use borrow.Author.Tests.{eq-eqb, ne_eqb}
 use Rattle.parser.proofs.head.format_at.Goals as goal
 

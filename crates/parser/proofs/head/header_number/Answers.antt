@@ -1,3 +1,4 @@
+-- `parser::head::header_number`: the two questions before any byte is read, then those about the bytes.
 use mathlib.Core.Path.{◌≡◌, sym, ◌∙◌, ap, ap₂}
 use mathlib.Core.Bool.{Bool, ◌&&◌}
 use Prim.Native.Nat.{ℕ}

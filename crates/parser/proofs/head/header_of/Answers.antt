@@ -1,3 +1,4 @@
+-- `parser::head::header_of`.
 use native.Mathlib.Omega.{arith}
 use Rattle.parser.proofs.head.Laws.{format_small}
 use Rattle.parser.proofs.head.header_of.Goals as goal

@@ -1,3 +1,4 @@
+-- `parser::head::is_interlaced`.
 use mathlib.Core.Path.{sym, ◌∙◌}
 use native.Mathlib.Omega.{arith}
 use Rattle.parser.proofs.head.Laws.{format_small, progressive, may_interlace}

@@ -1,3 +1,4 @@
+-- `parser::head::shift_in`.
 use borrow.Author.Tests.{eq-eqb, ne_eqb}
 use Rattle.parser.proofs.head.shift_in.Goals as goal
 

@@ -1,3 +1,4 @@
+-- `parser::head::slice_count_ok`.
 use native.Mathlib.Omega.{arith}
 use Rattle.parser.proofs.head.Laws.{format_small}
 use Rattle.parser.proofs.head.slice_count_ok.Goals as goal

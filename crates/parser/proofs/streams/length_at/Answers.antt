@@ -1,3 +1,4 @@
+-- `parser::streams::length_at`: four bytes, each below 256.
 use Rattle.parser.proofs.streams.Laws.{length_is}
 use Rattle.parser.proofs.streams.length_at.Goals as goal
 

@@ -1,3 +1,4 @@
+-- `parser::streams::one_stream`: each return is one answer of the three questions.
 use mathlib.Core.Path.{sym, ◌∙◌, ap}
 use native.Mathlib.Omega.{arith}
 use Prim.Native.Nat.{◌+◌}

@@ -1,3 +1,4 @@
+-- `parser::streams::walk`: what is still to be walked from here gives what the whole walk gives.
 use borrow.Author.Rules.{rules}
 use mathlib.Core.Path.{◌≡◌, sym, ◌∙◌, ap}
 use Prim.Native.Nat.{◌-◌}

@@ -1,3 +1,4 @@
+-- `parser::streams::walk`: what is still to be walked from here gives what the whole walk gives.
 use mathlib.Core.Path.{◌≡◌}
 use Prim.Native.Nat.{◌≤◌, ◌-◌}
 use lib.ListN.{length}

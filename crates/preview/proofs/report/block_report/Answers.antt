@@ -1,3 +1,4 @@
+-- `preview::report::block_report`: the questions, the judge, then the bytes.
 use mathlib.Core.Path.{◌≡◌, refl, sym, ◌∙◌}
 use Prim.Native.Nat.{◌*◌, ◌/◌}
 use native.Mathlib.Omega.{arith}

@@ -1,3 +1,4 @@
+-- `preview::report::least_after`: as at first, or never.
 use native.Mathlib.Omega.{arith}
 use Rattle.preview.proofs.report.least_after.Goals as goal
 

@@ -1,5 +1,7 @@
+-- `preview::report::report_number`: one question before the other.
 use mathlib.Core.Path.{sym, ap, ◌∙◌}
 use mathlib.Core.Bool.{Bool, ◌&&◌}
+use mathlib.Core.List.{[]}
 use Prim.Native.Nat.{◌/◌}
 use lib.Dec.{leb}
 use Rattle.ask.specs.Ask.{or_else}

@@ -1,3 +1,4 @@
+-- `preview::report::store_blocks`: one byte a turn; what is still to be stored from here gives what the whole gives.
 use mathlib.Core.Path.{ap₂, ◌≡◌, refl, sym, ap, subst, ◌∙◌}
 use mathlib.Core.Bool.{true}
 use mathlib.Core.List.{List}

@@ -1,3 +1,4 @@
+-- `preview::report::store_report`: with a table of all looks, or with none.
 use mathlib.Core.Path.{◌≡◌}
 use native.Mathlib.Omega.{arith}
 use borrow.Author.Rules.{rules}

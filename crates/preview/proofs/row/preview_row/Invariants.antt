@@ -1,3 +1,4 @@
+-- `preview::row::preview_row`: one byte a turn; the loop carries `Row`.
 use mathlib.Core.Path.{◌≡◌}
 use Prim.Native.Nat.{◌-◌, ◌≤◌}
 use lib.ListN.{length}

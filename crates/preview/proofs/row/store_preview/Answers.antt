@@ -1,3 +1,4 @@
+-- `preview::row::store_preview`: two rows, one after the other.
 use mathlib.Core.Path.{◌≡◌, ◌∙◌}
 use native.Mathlib.Omega.{arith}
 use borrow.Author.Rules.{sfits_of}

@@ -4,7 +4,7 @@ use lib.ListN.{length}
 use Rattle.probe.proofs.blocks.probe_blocks_forward8.Given as goal
 
 abbrev pub invariant-loop-i : goal.invariant-loop-i
-invariant-loop-i l = (l.i ≤ l.initial.i) × (length l.out ≡ length l.k)
+invariant-loop-i l = (l.i ≤ l.i-end) × (length l.out ≡ length l.initial.out)
 
 abbrev pub decreases-loop-i : goal.decreases-loop-i
-decreases-loop-i l = l.initial.i - l.i
+decreases-loop-i l = l.i-end - l.i

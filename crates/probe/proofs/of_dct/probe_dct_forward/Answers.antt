@@ -1,3 +1,4 @@
+-- `probe::of_dct::probe_dct_forward`: the numbers lent are the preset's.
 use native.Mathlib.Omega.{arith}
 use Rattle.probe.proofs.of_dct.probe_dct_forward.Goals as goal
 

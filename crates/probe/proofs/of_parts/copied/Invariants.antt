@@ -4,7 +4,7 @@ use lib.ListN.{length}
 use Rattle.probe.proofs.of_parts.copied.Given as goal
 
 abbrev pub invariant-loop-k : goal.invariant-loop-k
-invariant-loop-k l = (l.k ≤ l.initial.k) × (length l.out ≡ length l.k-end)
+invariant-loop-k l = (l.k ≤ l.k-end) × (length l.out ≡ length l.initial.out)
 
 abbrev pub decreases-loop-k : goal.decreases-loop-k
-decreases-loop-k l = l.initial.k - l.k
+decreases-loop-k l = l.k-end - l.k

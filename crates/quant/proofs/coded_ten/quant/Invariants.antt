@@ -1,10 +1,11 @@
+-- `quant::coded_ten::quant` puts a row in each turn of the loop inside.
 use Prim.Native.Nat.{◌-◌, ◌*◌}
 use Rattle.lanes.proofs.rows.Loops.{RowsPut, TwoRows}
 use Rattle.quant.proofs.Rows.{row_at}
 use Rattle.quant.proofs.coded_ten.quant.Given as goal
 
 abbrev pub invariant-loop-h : goal.invariant-loop-h
-invariant-loop-h l = TwoRows (row_at l.k l.w) l.q l.initial.q l.h
+invariant-loop-h l = TwoRows (row_at l.k l.w) l.q l.p l.h
 
 abbrev pub decreases-loop-h : goal.decreases-loop-h
 decreases-loop-h l = 2 - l.h

@@ -1,3 +1,4 @@
+-- `quant::scan::zigzag`: sixteen times four moves.
 use mathlib.Core.Path.{refl}
 use Rattle.quant.proofs.scan.Moves.{moved}
 use Rattle.quant.proofs.scan.zigzag.Goals as goal
@@ -20,7 +21,7 @@ returns c =
     let c2 = c3.before.before.before in
     let c1 = c2.before.before.before in
     let s = c1.before.before.before in
-    moved s.args.t1 refl
+    moved s.args.n refl
     c1.four.ensures c2.four-2.ensures c3.four-3.ensures c4.four-4.ensures
     c5.four-5.ensures c6.four-6.ensures c7.four-7.ensures c8.four-8.ensures
     c9.four-9.ensures c10.four-10.ensures c11.four-11.ensures c12.four-12.ensures

@@ -13,14 +13,14 @@ loop-r-preserved c =
     let n = x.before.before in
     let l = n.before in
     let s = l.before.args in
-    put_turn (row_at s.shift s.d.now s.t1) l.loop-r.w l.loop-r.r n.loop-r-test.true l.loop-r.invariant c.put.ensures
-    (row_of_calls s.shift s.d.now s.t1 l.loop-r.r x.row.ensures q.numbers.ensures y.dequant_row-y.ensures)
+    put_turn (row_at s.shift s.d.now s.n) l.loop-r.w l.loop-r.r n.loop-r-test.true l.loop-r.invariant c.put.ensures
+    (row_of_calls s.shift s.d.now s.n l.loop-r.r x.row.ensures q.numbers.ensures y.dequant_row-y.ensures)
 
 pub returns : goal.returns
 returns c =
     let l = c.before in
     let s = l.before.args in
-    put_done (row_at s.shift s.d.now s.t1) l.loop-r.w l.loop-r.r (omega arith) l.loop-r.invariant ∙ block_law s.shift s.d.now s.t1
+    put_done (row_at s.shift s.d.now s.n) l.loop-r.w l.loop-r.r (omega arith) l.loop-r.invariant ∙ block_law s.shift s.d.now s.n
 
 pub loop-r-init : goal.loop-r-init
 loop-r-init c = (omega arith, (refl, refl))

@@ -1,6 +1,7 @@
+-- `questions::four::all_ok`.
 use borrow.Author.Tests.{not-true, not-false}
 use mathlib.Core.Path.{◌≡◌, sym, ◌∙◌}
-use mathlib.Core.List.{◌∷◌}
+use mathlib.Core.List.{[], ◌∷◌}
 use lib.ListN.{take}
 use Prim.Native.Nat.{◌-◌}
 use native.Mathlib.Omega.{arith}

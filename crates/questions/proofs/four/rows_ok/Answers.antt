@@ -1,5 +1,6 @@
+-- `questions::four::rows_ok`.
 use mathlib.Core.Path.{◌∙◌}
-use mathlib.Core.List.{◌∷◌}
+use mathlib.Core.List.{[], ◌∷◌}
 use lib.ListN.{take}
 use Rattle.questions.specs.four.Firsts.{all_of}
 use Rattle.questions.proofs.four.rows_ok.Goals as goal

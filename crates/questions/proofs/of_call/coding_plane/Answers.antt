@@ -1,3 +1,4 @@
+-- `questions::of_call::coding_plane`.
 use mathlib.Core.Path.{sym, ap, ◌∙◌}
 use native.Mathlib.Omega.{arith}
 use lib.Dec.{leb}

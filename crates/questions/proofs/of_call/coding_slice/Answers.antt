@@ -1,3 +1,4 @@
+-- `questions::of_call::coding_slice`.
 use mathlib.Core.Path.{◌∙◌}
 use Rattle.ask.specs.Limits.{stride_ok}
 use Rattle.calls.specs.Arguments.{planes_lent}

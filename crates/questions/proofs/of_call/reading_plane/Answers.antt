@@ -1,3 +1,4 @@
+-- `questions::of_call::reading_plane`.
 use mathlib.Core.Path.{sym, ap, ◌∙◌}
 use lib.Dec.{leb}
 use Rattle.ask.specs.Limits.{stride_ok, rows_needed}

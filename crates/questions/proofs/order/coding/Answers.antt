@@ -1,6 +1,7 @@
+-- `questions::order::coding`.
 use mathlib.Core.Path.{sym, ap, ◌∙◌}
 use mathlib.Core.Bool.{Bool, ◌&&◌}
-use mathlib.Core.List.{◌∷◌}
+use mathlib.Core.List.{[], ◌∷◌}
 use Rattle.ask.specs.Ask.{ask, or_else}
 use Rattle.ask.specs.Numbers.{no_room, no_start}
 use Rattle.ask.proofs.FirstNo.{none, put}

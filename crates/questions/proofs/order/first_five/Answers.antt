@@ -1,3 +1,4 @@
+-- `questions::order::first_five`: one question before the other.
 use mathlib.Core.Path.{ap, ◌∙◌}
 use mathlib.Core.Bool.{Bool}
 use Rattle.ask.specs.Ask.{or_else}

@@ -1,6 +1,7 @@
+-- `questions::order::reading`.
 use mathlib.Core.Path.{sym, ap, ◌∙◌}
 use mathlib.Core.Bool.{Bool, ◌&&◌}
-use mathlib.Core.List.{◌∷◌}
+use mathlib.Core.List.{[], ◌∷◌}
 use Rattle.ask.specs.Ask.{or_else}
 use Rattle.ask.specs.Numbers.{no_start}
 use Rattle.ask.proofs.FirstNo.{none, put}

@@ -1,5 +1,7 @@
+-- `questions::sizes::plane_number`.
 use mathlib.Core.Path.{sym, ap, ◌∙◌}
 use mathlib.Core.Bool.{Bool}
+use mathlib.Core.List.{[]}
 use Rattle.ask.specs.Ask.{or_else}
 use Rattle.ask.specs.Numbers.{no_stride}
 use Rattle.ask.specs.Limits.{stride_ok}

@@ -1,3 +1,4 @@
+-- `questions::sizes::plane_size`.
 use mathlib.Core.Path.{◌≡◌}
 use Prim.Native.Nat.{◌/◌, ◌≤◌}
 use native.Mathlib.Omega.{arith}

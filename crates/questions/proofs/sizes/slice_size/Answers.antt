@@ -1,3 +1,4 @@
+-- `questions::sizes::slice_size`.
 use mathlib.Core.Path.{◌≡◌}
 use Prim.Native.Nat.{◌≤◌}
 use native.Mathlib.Omega.{arith}

@@ -1,6 +1,12 @@
 use native.Mathlib.Omega.{arith}
+use borrow.Author.Rules.{rules}
+use Rattle.tables.specs.Divisor.{divisor}
 use Rattle.tables.proofs.Sizes.{divisor_high, product_is}
 use Rattle.tables.proofs.divisors.divisor.Goals as goal
+
+pub returns-then-y-eq0 : goal.returns-then-y-eq0
+unfolding divisor
+returns-then-y-eq0 c = search rules
 
 pub overflow_mul-result : goal.overflow_mul-result
 overflow_mul-result c =

@@ -1,3 +1,4 @@
+-- `views::both::walk`: the two walks, and what they leave in the table.
 use mathlib.Core.Path.{◌≡◌, sym}
 use mathlib.Core.List.{List}
 use Prim.Native.Nat.{ℕ}

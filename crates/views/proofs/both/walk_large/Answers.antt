@@ -1,3 +1,4 @@
+-- `views::both::walk_large`.
 use native.Mathlib.Omega.{arith}
 use mathlib.Core.Path.{refl}
 use Rattle.parser.proofs.head.Laws.{legal}

@@ -1,3 +1,4 @@
+-- `views::both::walk_whole`.
 use native.Mathlib.Omega.{arith}
 use Prim.Native.Nat.{ℕ}
 use lib.ListN.{replicate, length-replicate}

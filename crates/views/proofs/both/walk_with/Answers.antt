@@ -1,3 +1,4 @@
+-- `views::both::walk_with`.
 use native.Mathlib.Omega.{arith}
 use Prim.Native.Nat.{◌*◌}
 use Rattle.parser.proofs.head.Laws.{legal}

@@ -1,3 +1,4 @@
+-- `views::walk::walk_views`: after each stream the table holds the views so far.
 use mathlib.Core.Path.{refl, sym}
 use Prim.Native.Nat.{◌-◌, ◌≤◌}
 use native.Mathlib.Omega.{arith}

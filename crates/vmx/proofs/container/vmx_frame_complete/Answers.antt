@@ -1,3 +1,4 @@
+-- `vmx::container::vmx_frame_complete`.
 use mathlib.Core.Path.{◌∙◌, ap}
 use mathlib.Core.Bool.{Bool}
 use Rattle.ask.specs.Ask.{Answer}

@@ -1,3 +1,4 @@
+-- `vmx::container::vmx_frame_put`.
 use mathlib.Core.Path.{ap₂}
 use mathlib.Core.Bool.{Bool}
 use Rattle.layout.specs.Views.{is_ac}

@@ -1,3 +1,4 @@
+-- `vmx::container::vmx_frame_start`.
 use Rattle.builder.specs.Build.{header_of}
 use Rattle.outs.specs.frame.Outs.{is_on}
 use Rattle.vmx.proofs.container.vmx_frame_start.Goals as goal

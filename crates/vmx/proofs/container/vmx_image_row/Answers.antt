@@ -1,3 +1,4 @@
+-- `vmx::container::vmx_image_row`.
 use mathlib.Core.Path.{ap}
 use Rattle.layout.specs.Geometry.{image_row_of}
 use Rattle.layout.proofs.Laws.{sized_alone, fits, no_size_lem}

@@ -1,3 +1,4 @@
+-- `vmx::container::vmx_interlace_capable`.
 use Rattle.layout.specs.Geometry.{interlace_capable}
 use Rattle.layout.proofs.Laws.{fits, no_size_lem}
 use Rattle.vmx.proofs.container.vmx_interlace_capable.Goals as goal

@@ -1,3 +1,4 @@
+-- `vmx::container::vmx_layout`.
 use Rattle.vmx.proofs.container.vmx_layout.Goals as goal
 
 pub returns : goal.returns

@@ -1,3 +1,4 @@
+-- `vmx::container::vmx_parse`.
 use Rattle.vmx.proofs.container.vmx_parse.Goals as goal
 
 pub returns : goal.returns

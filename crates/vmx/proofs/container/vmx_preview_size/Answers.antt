@@ -1,3 +1,4 @@
+-- `vmx::container::vmx_preview_size`.
 use Rattle.layout.specs.Geometry.{preview_size}
 use Rattle.layout.proofs.Laws.{fits, no_size_lem}
 use Rattle.outs.specs.frame.Outs.{is_on}

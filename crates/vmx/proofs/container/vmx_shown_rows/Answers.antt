@@ -1,3 +1,4 @@
+-- `vmx::container::vmx_shown_rows`.
 use mathlib.Core.Path.{◌≡◌, sym, ◌∙◌}
 use native.Mathlib.Omega.{arith}
 use Rattle.shown.proofs.Laws.{shows}

@@ -1,3 +1,4 @@
+-- `vmx::container::vmx_stream`.
 use mathlib.Core.Path.{◌∙◌, ap}
 use mathlib.Core.Bool.{Bool}
 use Rattle.parser.specs.Frame.{view_of}

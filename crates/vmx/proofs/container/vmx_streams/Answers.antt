@@ -1,3 +1,4 @@
+-- `vmx::container::vmx_streams`.
 use Rattle.outs.specs.frame.Outs.{frame_places}
 use Rattle.vmx.proofs.Laws.{streams_handed}
 use Rattle.vmx.proofs.container.vmx_streams.Goals as goal

@@ -1,3 +1,4 @@
+-- `vmx::eight::vmx_decode_plane8`.
 use Rattle.calls.proofs.Told.{handed_out}
 use Rattle.vmx.proofs.eight.vmx_decode_plane8.Goals as goal
 

@@ -1,3 +1,4 @@
+-- `vmx::eight::vmx_encode_slice8`.
 use Rattle.calls.proofs.Told.{handed_out}
 use Rattle.vmx.proofs.eight.vmx_encode_slice8.Goals as goal
 

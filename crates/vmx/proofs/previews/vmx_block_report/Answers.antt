@@ -1,3 +1,4 @@
+-- `vmx::previews::vmx_block_report`.
 use Rattle.calls.proofs.Told.{handed_out}
 use Rattle.vmx.proofs.previews.vmx_block_report.Goals as goal
 

@@ -1,3 +1,4 @@
+-- `vmx::previews::vmx_preview`.
 use Rattle.calls.proofs.Told.{handed_out}
 use Rattle.vmx.proofs.previews.vmx_preview.Goals as goal
 

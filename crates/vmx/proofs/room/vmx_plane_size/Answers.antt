@@ -1,3 +1,4 @@
+-- `vmx::room::vmx_plane_size`.
 use Rattle.vmx.proofs.room.vmx_plane_size.Goals as goal
 
 pub returns : goal.returns

@@ -1,3 +1,4 @@
+-- `vmx::ten::vmx_decode_plane10`.
 use Rattle.calls.proofs.Told.{handed_out}
 use Rattle.vmx.proofs.ten.vmx_decode_plane10.Goals as goal
 

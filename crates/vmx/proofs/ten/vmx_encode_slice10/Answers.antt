@@ -1,3 +1,4 @@
+-- `vmx::ten::vmx_encode_slice10`.
 use Rattle.calls.proofs.Told.{handed_out}
 use Rattle.vmx.proofs.ten.vmx_encode_slice10.Goals as goal
 

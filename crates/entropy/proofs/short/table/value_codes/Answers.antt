@@ -1,3 +1,4 @@
+-- `entropy::short::table::value_codes`: antt computes each entry.
 use mathlib.Core.Path.{refl}
 use Rattle.scalar.specs.Tab.{tab_from}
 use Rattle.bits.specs.Bits.{bit_length, halvings}

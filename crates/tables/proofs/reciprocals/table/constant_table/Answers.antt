@@ -1,3 +1,4 @@
+-- Each entry of the constant is what `reciprocal` computes for its divisor: antt computes all 4,800.
 use mathlib.Core.Path.{refl}
 use lib.Count.{count_leading_zeros}
 use Rattle.scalar.specs.Tab.{tab_from}

@@ -1,3 +1,4 @@
+-- `views::walk::table::copy`: so many numbers are copied.
 use borrow.Author.Rules.{rules}
 use mathlib.Core.Path.{◌≡◌, refl, ap, ◌∙◌}
 use native.Mathlib.Omega.{arith}

@@ -1,3 +1,4 @@
+-- `views::walk::table::copy`: so many numbers are copied.
 use mathlib.Core.Path.{◌≡◌}
 use Prim.Native.Nat.{◌-◌, ◌≤◌}
 use lib.ListN.{length, take}
@@ -5,7 +6,7 @@ use Rattle.bits.specs.Lay.{lay}
 use Rattle.views.proofs.walk.table.copy.Given as goal
 
 abbrev pub invariant-loop-k : goal.invariant-loop-k
-invariant-loop-k l = (l.k ≤ l.initial.to) × ((length l.to ≡ length l.from) × (l.to ≡ lay l.from 0 (take l.k l.n)))
+invariant-loop-k l = (l.k ≤ l.n) × ((length l.to ≡ length l.initial.to) × (l.to ≡ lay l.initial.to 0 (take l.k l.from)))
 
 abbrev pub decreases-loop-k : goal.decreases-loop-k
-decreases-loop-k l = l.initial.to - l.k
+decreases-loop-k l = l.n - l.k

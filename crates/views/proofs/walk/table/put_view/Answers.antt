@@ -1,3 +1,4 @@
+-- `views::walk::table::put_view`.
 use native.Mathlib.Omega.{arith}
 use lib.ListN.{length-set}
 use Rattle.copy.proofs.Laws.{lay2}
