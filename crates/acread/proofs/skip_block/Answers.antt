@@ -5,6 +5,7 @@ use native.Mathlib.Omega.{arith}
 use Rattle.acread.specs.Going.{Going}
 use Rattle.acread.proofs.Going.{going_start, going_same, going_turn, going_bad, going_over, span_some}
 use Rattle.acread.proofs.skip_block.Goals as goal
+use Rattle.acread.proofs.skip_block.Goals.{After-row_known-1, After-span-place}
 
 pub loop-place-init : goal.loop-place-init
 loop-place-init c =
@@ -32,7 +33,7 @@ returns-then-g-eq0 c =
     going_bad a.s.now a.c0.pos a.pending t.result.c t.result.place g.result i (omega arith) g.ensures c.if-g-eq0.true
 
 -- after looks and one symbol
-one : (c : goal.After-span-place)
+one : (c : After-span-place)
     → let a = c.before.before.before.before.before.before.before.before.before.before.before.before.args in
     Going a.s.now a.c0.pos a.pending c.before.before.before.before.next_symbol-g.result.c (c.before.before.before.before.before.before.before.by_table-a.result.place + c.span-place.result)
     × (0 < c.span-place.result)
@@ -55,7 +56,7 @@ pub loop-place-preserved : goal.loop-place-preserved
 loop-place-preserved c = (c.before.before.before.before.before.before.before.before.before.loop-place.invariant.0, (one c).0)
 
 -- the block is over, by a symbol or by a look
-ended : (c : goal.After-row_known-1)
+ended : (c : After-row_known-1)
     → let a = c.before.before.before.before.before.args in
     Going a.s.now a.c0.pos a.pending c.before.loop-place-test.c c.before.loop-place-test.place × (64 ≤ c.before.loop-place-test.place)
 ended c =

@@ -1,3 +1,4 @@
+-- `bits::bit_len` meets its contract. Assumes nothing.
 use mathlib.Core.Path.{sym}
 use lib.Count.{leading_le}
 use Rattle.bits.proofs.Leading.{length_is}

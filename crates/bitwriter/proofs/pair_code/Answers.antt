@@ -9,11 +9,12 @@ use Rattle.bitwriter.specs.Pairs.{pair_code}
 use Rattle.bitwriter.specs.declared.PairCode.{PairCode}
 use Rattle.bitwriter.proofs.Words.{Value, value_word, Run, run_code_lem}
 use Rattle.bitwriter.proofs.pair_code.Goals as goal
+use Rattle.bitwriter.proofs.pair_code.Goals.{After-bit_len, After-run_word}
 
-value : (c : goal.After-bit_len) → Value 15 c.before.before.args.c c.bit_len.result
+value : (c : After-bit_len) → Value 15 c.before.before.args.c c.bit_len.result
 value c = let s = c.before.before in value_word 15 s.args.c c.bit_len.result (omega arith) s.requires.1 s.requires.2 c.bit_len.ensures
 
-run : (c : goal.After-run_word) → Run 17 c.before.before.before.args.n c.before.before.bit_len-b.result c.run_word.result
+run : (c : After-run_word) → Run 17 c.before.before.before.args.n c.before.before.bit_len-b.result c.run_word.result
 run c =
     let s = c.before.before.before in
     run_code_lem 17 s.args.n c.before.before.bit_len-b.result c.run_word.result (omega arith) s.requires.0 c.before.before.bit_len-b.ensures c.run_word.ensures

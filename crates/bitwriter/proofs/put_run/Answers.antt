@@ -3,8 +3,9 @@ use Prim.Native.Nat.{◌-◌}
 use native.Mathlib.Omega.{arith}
 use Rattle.bitwriter.proofs.Words.{Run, run_code_lem, room_as}
 use Rattle.bitwriter.proofs.put_run.Goals as goal
+use Rattle.bitwriter.proofs.put_run.Goals.{After-run_word}
 
-word : (c : goal.After-run_word) → Run 31 c.before.before.before.args.n c.before.bit_len-b.result c.run_word.result
+word : (c : After-run_word) → Run 31 c.before.before.before.args.n c.before.bit_len-b.result c.run_word.result
 word c =
     let s = c.before.before.before in
     run_code_lem 31 s.args.n c.before.bit_len-b.result c.run_word.result (omega arith) s.requires.0 c.before.bit_len-b.ensures c.run_word.ensures

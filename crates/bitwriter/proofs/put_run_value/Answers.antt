@@ -8,12 +8,13 @@ use Rattle.bitwriter.specs.declared.PairCode.{PairCode}
 use Rattle.bitwriter.proofs.Words.{room_as}
 use Rattle.bitwriter.proofs.Pairs.{Pair, pair_word}
 use Rattle.bitwriter.proofs.put_run_value.Goals as goal
+use Rattle.bitwriter.proofs.put_run_value.Goals.{After-pair_code-p}
 
 -- the bits of the pair that was made
 bits_are : {q : PairCode} (n c : ℕ) → q ≡ pair_code n c → Pair n c → run_code n ++ value_code c ≡ bits_of q.length q.bits
 bits_are n c e p = rw e p.code
 
-pair : (c : goal.After-pair_code-p) → let s = c.before.before in Pair s.args.n s.args.c
+pair : (c : After-pair_code-p) → let s = c.before.before in Pair s.args.n s.args.c
 pair c = let s = c.before.before in pair_word s.args.n s.args.c s.requires.0 s.requires.1 s.requires.2
 
 pub put-requires : goal.put-requires

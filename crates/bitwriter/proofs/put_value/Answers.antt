@@ -3,8 +3,9 @@ use Prim.Native.Nat.{◌-◌}
 use native.Mathlib.Omega.{arith}
 use Rattle.bitwriter.proofs.Words.{Value, value_word, room_as}
 use Rattle.bitwriter.proofs.put_value.Goals as goal
+use Rattle.bitwriter.proofs.put_value.Goals.{After-bit_len}
 
-word : (c : goal.After-bit_len) → Value 32 c.before.before.args.c c.bit_len.result
+word : (c : After-bit_len) → Value 32 c.before.before.args.c c.bit_len.result
 word c = let s = c.before.before in value_word 32 s.args.c c.bit_len.result (omega arith) s.requires.0 s.ranges.c.fits c.bit_len.ensures
 
 pub overflow_mul-n : goal.overflow_mul-n

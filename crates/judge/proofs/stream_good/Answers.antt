@@ -9,6 +9,7 @@ use Rattle.judge.specs.Good.{stream_plane, first_strides}
 use Rattle.judge.proofs.Clean.{spans, clean}
 use Rattle.judge.proofs.Turns.{clean_good, turns_start, turns_over, turns_bad, turns_next, one_more, fewer_left, below_four, turn_fits, still_near, of_byte, first_length, first_at}
 use Rattle.judge.proofs.stream_good.Goals as goal
+use Rattle.judge.proofs.stream_good.Goals.{In-loop-k, Start}
 
 pub no_six_zeros-requires : goal.no_six_zeros-requires
 no_six_zeros-requires c = tt
@@ -26,7 +27,7 @@ loop-k-init c =
     let a = c.before.before.before.before.args in
     (omega arith, turns_start (stream_plane a.dc a.bytes.now) (first_strides a.f) a.from)
 
-abbrev start : goal.In-loop-k → goal.Start
+abbrev start : In-loop-k → Start
 start c = c.before.before.before.before.before.before
 
 pub offset_bounds-strides-k : goal.offset_bounds-strides-k

@@ -1,3 +1,4 @@
+-- `layout::image_row`: the row's half and its place in the field decide.
 use borrow.Author.Tests.{lt-ltb, le-ltb}
 use native.Mathlib.Omega.{arith}
 use mathlib.Core.Path.{ap}

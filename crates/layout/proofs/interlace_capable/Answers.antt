@@ -1,3 +1,4 @@
+-- `layout::interlace_capable`: the three heights, one test each.
 use borrow.Author.Tests.{eq-eqb, ne_eqb}
 use Rattle.layout.proofs.interlace_capable.Goals as goal
 

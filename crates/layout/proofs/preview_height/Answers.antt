@@ -1,3 +1,4 @@
+-- `layout::preview_height`.
 use Rattle.layout.specs.Geometry.{preview_height}
 use Rattle.layout.proofs.preview_height.Goals as goal
 

@@ -1,3 +1,4 @@
+-- `layout::size_number`.
 use mathlib.Core.Path.{ap, ◌∙◌}
 use mathlib.Core.Bool.{Bool}
 use Rattle.ask.specs.Ask.{or_else, first_no}
@@ -6,4 +7,4 @@ use Rattle.layout.proofs.size_number.Goals as goal
 
 pub returns : goal.returns
 unfolding first_no
-returns c = c.or_else.ensures ∙ ap (λ (b : Bool). or_else b no_size 0) c.before.Size-ok.ensures
+returns c = c.or_else.ensures ∙ ap (λ (b : Bool). or_else b no_size 0) c.before.size_ok-size.ensures

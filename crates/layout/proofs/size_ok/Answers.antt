@@ -1,3 +1,4 @@
+-- `layout::size_ok`.
 use mathlib.Core.Path.{ap₂, ◌∙◌}
 use mathlib.Core.Bool.{◌&&◌}
 use Rattle.layout.proofs.size_ok.Goals as goal

@@ -1,3 +1,4 @@
+-- `layout::width_ok`.
 use mathlib.Core.Path.{ap, ◌∙◌}
 use mathlib.Core.Bool.{Bool, ◌&&◌}
 use Prim.Native.Nat.{◌%◌}

@@ -12,48 +12,49 @@ use Rattle.parser.proofs.streams.Laws.{place_told}
 use Rattle.parser.proofs.head.Laws.{header_fits, begins_inside, none_is, legal}
 use Rattle.parser.proofs.Laws.{frame_no, dc_no, dc_only, ac_no, ac_too, dc_walk, ac_walk}
 use Rattle.parser.proofs.parse.Goals as goal
+use Rattle.parser.proofs.parse.Goals.{After-walk, After-walk-then-q-frame, Else-x-gt0, In-At-2, Start}
 
 -- the arguments
-abbrev w : goal.Start → ℕ
+abbrev w : Start → ℕ
 w s = s.args.width
 
-abbrev h : goal.Start → ℕ
+abbrev h : Start → ℕ
 h s = s.args.height
 
-abbrev f : goal.Start → List ℕ
+abbrev f : Start → List ℕ
 f s = s.args.frame.now
 
 -- after the questions: every answer is yes
-abbrev start : goal.Else-x-gt0 → goal.Start
+abbrev start : Else-x-gt0 → Start
 start n = n.before.before.before
 
-all_yes : (n : goal.Else-x-gt0) → first_no (header_questions (w (start n)) (h (start n)) (f (start n))) ≡ 0
+all_yes : (n : Else-x-gt0) → first_no (header_questions (w (start n)) (h (start n)) (f (start n))) ≡ 0
 all_yes n = none_is n.before.header_number-x.ensures n.if-x-gt0.false
 
-is_legal : (n : goal.Else-x-gt0) → LegalFrame (w (start n)) (h (start n)) (f (start n))
+is_legal : (n : Else-x-gt0) → LegalFrame (w (start n)) (h (start n)) (f (start n))
 is_legal n = legal (w (start n)) (h (start n)) (f (start n)) (all_yes n)
 
 -- the first walk is over the DC streams
-abbrev asked : goal.After-walk → goal.Else-x-gt0
+abbrev asked : After-walk → Else-x-gt0
 asked v = v.before.before.before.before
 
-dc_is : (v : goal.After-walk) → place_says v.walk.result ≡ dc_streams (w (start (asked v))) (h (start (asked v))) (f (start (asked v)))
+dc_is : (v : After-walk) → place_says v.walk.result ≡ dc_streams (w (start (asked v))) (h (start (asked v))) (f (start (asked v)))
 dc_is v =
     let s = start (asked v) in
     dc_walk (w s) (h s) (f s) v.before.before.before.slice_count-slices.ensures v.before.max_dc_len.ensures v.before.before.format_at-at.ensures v.walk.ensures
 
 -- which end at q
-abbrev behind : goal.In-At-2 → goal.Else-x-gt0
+abbrev behind : In-At-2 → Else-x-gt0
 behind k = asked k.before.before
 
-dc_there : (k : goal.In-At-2) → dc_streams (w (start (behind k))) (h (start (behind k))) (f (start (behind k))) ≡ accepted k.q-1.given.0.0
+dc_there : (k : In-At-2) → dc_streams (w (start (behind k))) (h (start (behind k))) (f (start (behind k))) ≡ accepted k.q-1.given.0.0
 dc_there k = place_told (dc_is k.before.before) k.q-1.given.1
 
 -- the second walk goes on from q, over the AC streams
-abbrev at_q : goal.After-walk-then-q-frame → goal.In-At-2
+abbrev at_q : After-walk-then-q-frame → In-At-2
 at_q u = u.before.before.before.before
 
-ac_is : (u : goal.After-walk-then-q-frame) → place_says u.walk-then-q-frame.result ≡ streams (slice_count (h (start (behind (at_q u))))) (max_ac_len (w (start (behind (at_q u))))) (f (start (behind (at_q u)))) (at_q u).q.given.0.0
+ac_is : (u : After-walk-then-q-frame) → place_says u.walk-then-q-frame.result ≡ streams (slice_count (h (start (behind (at_q u))))) (max_ac_len (w (start (behind (at_q u))))) (f (start (behind (at_q u)))) (at_q u).q.given.0.0
 ac_is u =
     let k = at_q u in
     let s = start (behind k) in

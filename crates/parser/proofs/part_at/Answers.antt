@@ -8,15 +8,16 @@ use Rattle.parser.specs.streams.Streams.{one_stream}
 use Rattle.parser.proofs.streams.Laws.{place_told, part_fits, part_before}
 use Rattle.parser.proofs.Laws.{no_walk, nth_no, nth_part, slice_no, slice_yes}
 use Rattle.parser.proofs.part_at.Goals as goal
+use Rattle.parser.proofs.part_at.Goals.{Else-n-slice, In-At, In-At-2, Start}
 
-abbrev start : goal.Else-n-slice → goal.Start
+abbrev start : Else-n-slice → Start
 start n = n.before.before
 
 -- the stream ends at e
-abbrev there : goal.In-At-2 → goal.Else-n-slice
+abbrev there : In-At-2 → Else-n-slice
 there k = k.before.before.before
 
-passed : (k : goal.In-At-2) → one_stream (start (there k)).args.limit (start (there k)).args.f.now (start (there k)).args.q ≡ accepted k.e-1.given.0.0
+passed : (k : In-At-2) → one_stream (start (there k)).args.limit (start (there k)).args.f.now (start (there k)).args.q ≡ accepted k.e-1.given.0.0
 passed k = place_told k.before.before.one_stream.ensures k.e-1.given.1
 
 pub returns-then-n-slice : goal.returns-then-n-slice
@@ -27,7 +28,7 @@ returns-then-n-slice c =
 pub one_stream-requires : goal.one_stream-requires
 one_stream-requires c = (start c).requires c.if-n-slice.false
 
-fits_behind : (c : goal.In-At) → Fits w64 ((start (there c.before)).args.q + 4)
+fits_behind : (c : In-At) → Fits w64 ((start (there c.before)).args.q + 4)
 fits_behind c =
     let a = (start (there c.before)).args in
     part_fits a.limit a.f.now a.q (passed c.before) (record { fits = c.known_told-in-At-1.given.0.1 })

@@ -8,15 +8,16 @@ use Rattle.parser.specs.Frame.{view_of, viewed_as}
 use Rattle.layout.specs.Views.{is_ac}
 use Rattle.parser.proofs.Laws.{view_told, view_inside, part_size}
 use Rattle.parser.proofs.stream.Goals as goal
+use Rattle.parser.proofs.stream.Goals.{After-view_at, In-Part-2, Start}
 
 -- the view that was found, and what is told of it
-abbrev start : goal.After-view_at → goal.Start
+abbrev start : After-view_at → Start
 start v = v.before.before
 
-found : (k : goal.In-Part-2) → view_of (start k.before.before).args.width (start k.before.before).args.height (start k.before.before).args.frame.now (is_ac (start k.before.before).args.kind) (start k.before.before).args.slice ≡ accepted (record { offset = k.p-1.given.0.0; size = k.p-1.given.0.1.0 })
+found : (k : In-Part-2) → view_of (start k.before.before).args.width (start k.before.before).args.height (start k.before.before).args.frame.now (is_ac (start k.before.before).args.kind) (start k.before.before).args.slice ≡ accepted (record { offset = k.p-1.given.0.0; size = k.p-1.given.0.1.0 })
 found k = view_told k.before.before.view_at.ensures k.p-1.given.1
 
-inside : (k : goal.In-Part-2) → k.p-1.given.0.0 + k.p-1.given.0.1.0 ≤ length (start k.before.before).args.frame.now
+inside : (k : In-Part-2) → k.p-1.given.0.0 + k.p-1.given.0.1.0 ≤ length (start k.before.before).args.frame.now
 inside k =
     let a = (start k.before.before).args in
     view_inside a.width a.height a.frame.now (is_ac a.kind) a.slice (found k)

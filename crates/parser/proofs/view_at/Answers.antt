@@ -14,28 +14,29 @@ use Rattle.parser.proofs.streams.Laws.{place_told, streams_inside}
 use Rattle.parser.proofs.head.Laws.{header_fits, begins_inside, none_is, legal}
 use Rattle.parser.proofs.Laws.{frame_no, dc_no, dc_only, ac_no, ac_too, dc_walk, ac_walk, dc_inside, nth_from, dc_nth, ac_nth, view_no, dc_wanted, ac_wanted, ac_missing}
 use Rattle.parser.proofs.view_at.Goals as goal
+use Rattle.parser.proofs.view_at.Goals.{After-slice_count-slices, After-walk_past, After-walk_past-then-q-frame, Else-q-frame, Else-x-gt0, In-At-2, In-At-walk_past, Start}
 
 -- the arguments
-abbrev w : goal.Start → ℕ
+abbrev w : Start → ℕ
 w s = s.args.width
 
-abbrev h : goal.Start → ℕ
+abbrev h : Start → ℕ
 h s = s.args.height
 
-abbrev f : goal.Start → List ℕ
+abbrev f : Start → List ℕ
 f s = s.args.frame.now
 
-abbrev slice : goal.Start → ℕ
+abbrev slice : Start → ℕ
 slice s = s.args.slice
 
 -- after the questions: every answer is yes
-abbrev start : goal.Else-x-gt0 → goal.Start
+abbrev start : Else-x-gt0 → Start
 start e = e.before.before.before
 
-all_yes : (e : goal.Else-x-gt0) → first_no (header_questions (w (start e)) (h (start e)) (f (start e))) ≡ 0
+all_yes : (e : Else-x-gt0) → first_no (header_questions (w (start e)) (h (start e)) (f (start e))) ≡ 0
 all_yes e = none_is e.before.header_number-x.ensures e.if-x-gt0.false
 
-is_legal : (e : goal.Else-x-gt0) → LegalFrame (w (start e)) (h (start e)) (f (start e))
+is_legal : (e : Else-x-gt0) → LegalFrame (w (start e)) (h (start e)) (f (start e))
 is_legal e = legal (w (start e)) (h (start e)) (f (start e)) (all_yes e)
 
 pub returns-then-x-gt0 : goal.returns-then-x-gt0
@@ -64,86 +65,86 @@ walk_past-requires c =
     begins_inside (f (start e)) c.before.before.before.format_at-at.ensures (is_legal e).five
 
 -- the first walk is over the DC streams
-abbrev counted : goal.After-walk_past → goal.After-slice_count-slices
+abbrev counted : After-walk_past → After-slice_count-slices
 counted v = v.before.before.before.before.before
 
-abbrev first : goal.After-walk_past → goal.Start
+abbrev first : After-walk_past → Start
 first v = start (counted v).before
 
 -- slice count, limits, where the DC streams begin, and the place noted
-abbrev n : goal.After-walk_past → ℕ
+abbrev n : After-walk_past → ℕ
 n v = (counted v).slice-count.result
 
-abbrev dc_limit : goal.After-walk_past → ℕ
+abbrev dc_limit : After-walk_past → ℕ
 dc_limit v = v.before.before.before.max-dc-len.result
 
-abbrev ac_limit : goal.After-walk_past → ℕ
+abbrev ac_limit : After-walk_past → ℕ
 ac_limit v = v.before.before.max-ac-len.result
 
-abbrev from : goal.After-walk_past → ℕ
+abbrev from : After-walk_past → ℕ
 from v = v.before.before.before.before.format-at.result + 3
 
-abbrev dc : goal.After-walk_past → ℕ
+abbrev dc : After-walk_past → ℕ
 dc v = v.walk-past.new.1.1.1.1.1.0
 
-dc_is : (v : goal.After-walk_past) → place_says v.walk_past.result ≡ dc_streams (w (first v)) (h (first v)) (f (first v))
+dc_is : (v : After-walk_past) → place_says v.walk_past.result ≡ dc_streams (w (first v)) (h (first v)) (f (first v))
 dc_is v =
     let s = first v in
     dc_walk (w s) (h s) (f s) (counted v).slice-count.ensures v.before.before.before.max_dc_len-max_dc_len.ensures v.before.before.before.before.format_at-at.ensures v.walk_past.ensures.0
 
 -- which end at q
-abbrev behind : goal.In-At-2 → goal.After-walk_past
+abbrev behind : In-At-2 → After-walk_past
 behind k = k.before.before
 
-abbrev q : goal.In-At-2 → ℕ
+abbrev q : In-At-2 → ℕ
 q k = k.q.given.0.0
 
-dc_there : (k : goal.In-At-2) → dc_streams (w (first (behind k))) (h (first (behind k))) (f (first (behind k))) ≡ accepted (q k)
+dc_there : (k : In-At-2) → dc_streams (w (first (behind k))) (h (first (behind k))) (f (first (behind k))) ≡ accepted (q k)
 dc_there k = place_told (dc_is (behind k)) k.q-1.given.1
 
-dc_noted : (k : goal.In-At-2) → slice (first (behind k)) < n (behind k) → streams (slice (first (behind k))) (dc_limit (behind k)) (f (first (behind k))) (from (behind k)) ≡ accepted (dc (behind k))
+dc_noted : (k : In-At-2) → slice (first (behind k)) < n (behind k) → streams (slice (first (behind k))) (dc_limit (behind k)) (f (first (behind k))) (from (behind k)) ≡ accepted (dc (behind k))
 dc_noted k = (behind k).walk-past.ensures.1 _ (place_told (behind k).walk-past.ensures.0 k.q-1.given.1)
 
-dc_inner : (k : goal.In-At-2) → slice (first (behind k)) < n (behind k) → dc (behind k) ≤ length (f (first (behind k)))
+dc_inner : (k : In-At-2) → slice (first (behind k)) < n (behind k) → dc (behind k) ≤ length (f (first (behind k)))
 dc_inner k l =
     let v = behind k in
     let s = first v in
     streams_inside (slice s) (dc_limit v) (f s) (from v) (begins_inside (f s) v.before.before.before.before.format-at.ensures (is_legal (counted v).before).five) (dc_noted k l)
 
-dc_view : (k : goal.In-At-2) → slice (first (behind k)) < n (behind k) → nth_stream 0 (dc_limit (behind k)) (f (first (behind k))) (dc (behind k)) ≡ kind_view false (w (first (behind k))) (h (first (behind k))) (f (first (behind k))) (slice (first (behind k)))
+dc_view : (k : In-At-2) → slice (first (behind k)) < n (behind k) → nth_stream 0 (dc_limit (behind k)) (f (first (behind k))) (dc (behind k)) ≡ kind_view false (w (first (behind k))) (h (first (behind k))) (f (first (behind k))) (slice (first (behind k)))
 dc_view k l =
     let v = behind k in
     let s = first v in
     dc_nth (w s) (h s) (f s) (slice s) v.before.before.before.max-dc-len.ensures v.before.before.before.before.format-at.ensures (nth_from (slice s) (dc_limit v) (f s) (from v) (dc_noted k l))
 
 -- the second walk goes on from q, over the AC streams
-abbrev at_q : goal.After-walk_past-then-q-frame → goal.In-At-2
+abbrev at_q : After-walk_past-then-q-frame → In-At-2
 at_q u = u.before.before.before.before
 
-abbrev second : goal.After-walk_past-then-q-frame → goal.Start
+abbrev second : After-walk_past-then-q-frame → Start
 second u = first (behind (at_q u))
 
-ac_is : (u : goal.After-walk_past-then-q-frame) → place_says u.walk_past-then-q-frame.result ≡ streams (slice_count (h (second u))) (max_ac_len (w (second u))) (f (second u)) (q (at_q u))
+ac_is : (u : After-walk_past-then-q-frame) → place_says u.walk_past-then-q-frame.result ≡ streams (slice_count (h (second u))) (max_ac_len (w (second u))) (f (second u)) (q (at_q u))
 ac_is u =
     let v = behind (at_q u) in
     let s = first v in
     ac_walk (w s) (h s) (f s) (q (at_q u)) (counted v).slice-count.ensures v.before.before.max-ac-len.ensures u.walk_past-then-q-frame.ensures.0
 
 -- which are accepted
-abbrev walked : goal.In-At-walk_past → goal.After-walk_past-then-q-frame
+abbrev walked : In-At-walk_past → After-walk_past-then-q-frame
 walked t = t.before.before
 
-abbrev both : goal.In-At-walk_past → goal.After-walk_past
+abbrev both : In-At-walk_past → After-walk_past
 both t = behind (at_q (walked t))
 
-abbrev ac : goal.In-At-walk_past → ℕ
+abbrev ac : In-At-walk_past → ℕ
 ac t = (walked t).walk-past2.new.1.1.1.1.1.0
 
-ac_noted : (t : goal.In-At-walk_past) → slice (first (both t)) < n (both t) → streams (slice (first (both t))) (ac_limit (both t)) (f (first (both t))) (q (at_q (walked t))) ≡ accepted (ac t)
+ac_noted : (t : In-At-walk_past) → slice (first (both t)) < n (both t) → streams (slice (first (both t))) (ac_limit (both t)) (f (first (both t))) (q (at_q (walked t))) ≡ accepted (ac t)
 ac_noted t =
     (walked t).walk-past2.ensures.1 _ (place_told (walked t).walk-past2.ensures.0 t.enum_told-1.given.1)
 
-ac_view : (t : goal.In-At-walk_past) → slice (first (both t)) < n (both t) → nth_stream 0 (ac_limit (both t)) (f (first (both t))) (ac t) ≡ kind_view true (w (first (both t))) (h (first (both t))) (f (first (both t))) (slice (first (both t)))
+ac_view : (t : In-At-walk_past) → slice (first (both t)) < n (both t) → nth_stream 0 (ac_limit (both t)) (f (first (both t))) (ac t) ≡ kind_view true (w (first (both t))) (h (first (both t))) (f (first (both t))) (slice (first (both t)))
 ac_view t l =
     let k = at_q (walked t) in
     let v = both t in
@@ -151,16 +152,16 @@ ac_view t l =
     ac_nth (w s) (h s) (f s) (slice s) (q k) v.before.before.max-ac-len.ensures (nth_from (slice s) (ac_limit v) (f s) (q k) (ac_noted t l)) (dc_there k)
 
 -- the frame is accepted, with AC and without
-with_ac : (t : goal.In-At-walk_past) → parse_of (w (first (both t))) (h (first (both t))) (f (first (both t))) ≡ accepted (frame_read (h (first (both t))) (f (first (both t))) true)
+with_ac : (t : In-At-walk_past) → parse_of (w (first (both t))) (h (first (both t))) (f (first (both t))) ≡ accepted (frame_read (h (first (both t))) (f (first (both t))) true)
 with_ac t =
     let u = walked t in
     let s = second u in
     ac_too (w s) (h s) (f s) (all_yes (counted (both t)).before) (dc_there (at_q u)) u.before.before.if2.taken (place_told (ac_is u) t.enum_told-1.given.1)
 
-abbrev only : goal.Else-q-frame → goal.In-At-2
+abbrev only : Else-q-frame → In-At-2
 only e = e.before.before
 
-without : (e : goal.Else-q-frame) → parse_of (w (first (behind (only e)))) (h (first (behind (only e)))) (f (first (behind (only e)))) ≡ accepted (frame_read (h (first (behind (only e)))) (f (first (behind (only e)))) false)
+without : (e : Else-q-frame) → parse_of (w (first (behind (only e)))) (h (first (behind (only e)))) (f (first (behind (only e)))) ≡ accepted (frame_read (h (first (behind (only e)))) (f (first (behind (only e)))) false)
 without e =
     let v = behind (only e) in
     let s = first v in

@@ -8,22 +8,23 @@ use Rattle.parser.specs.streams.Streams.{streams}
 use Rattle.parser.proofs.streams.Laws.{place_told, streams_inside, never}
 use Rattle.parser.proofs.Laws.{past, past_no}
 use Rattle.parser.proofs.walk_past.Goals as goal
+use Rattle.parser.proofs.walk_past.Goals.{In-At-2, Joined-skip-n, Start}
 
-abbrev start : goal.Joined-skip-n → goal.Start
+abbrev start : Joined-skip-n → Start
 start j = j.before.before
 
 -- k is `skip`, and no more than n
-below : (j : goal.Joined-skip-n) → j.if-skip-n.k ≤ (start j).args.n
+below : (j : Joined-skip-n) → j.if-skip-n.k ≤ (start j).args.n
 below j = ⊎_elim (λ w. omega (arith, w.0.taken, w.1)) (λ w. omega (arith, w.1)) j.if-skip-n.branch
 
-is_skip : (j : goal.Joined-skip-n) → (start j).args.skip < (start j).args.n → j.if-skip-n.k ≡ (start j).args.skip
+is_skip : (j : Joined-skip-n) → (start j).args.skip < (start j).args.n → j.if-skip-n.k ≡ (start j).args.skip
 is_skip j l = ⊎_elim (λ w. w.1) (λ w. absurd (omega (arith, w.0.left, l))) j.if-skip-n.branch
 
 -- the k streams end at q
-abbrev joined : goal.In-At-2 → goal.Joined-skip-n
+abbrev joined : In-At-2 → Joined-skip-n
 joined k = k.before.before.before
 
-passed : (k : goal.In-At-2) → streams (joined k).if1.k (start (joined k)).args.limit (start (joined k)).args.f.now (start (joined k)).args.p ≡ accepted k.q-1.given.0.0
+passed : (k : In-At-2) → streams (joined k).if1.k (start (joined k)).args.limit (start (joined k)).args.f.now (start (joined k)).args.p ≡ accepted k.q-1.given.0.0
 passed k = place_told k.before.before.walk.ensures k.q-1.given.1
 
 pub overflow_sub-n : goal.overflow_sub-n

@@ -6,19 +6,20 @@ use Rattle.ask.specs.Ask.{first_no}
 use Rattle.calls.specs.Questions.{preview_questions}
 use Rattle.preview.proofs.Asked.{Yes, yes, answer_no, answer_bad, answer_end}
 use Rattle.preview.proofs.preview.Goals as goal
+use Rattle.preview.proofs.preview.Goals.{Else-x-gt0, Start}
 
-abbrev start : goal.Else-x-gt0 → goal.Start
+abbrev start : Else-x-gt0 → Start
 start c = c.before.before.before.before.before
 
 -- no question was answered "no"
-none : (c : goal.Else-x-gt0)
+none : (c : Else-x-gt0)
     → let a = (start c).args in first_no (preview_questions a.shift a.h.place a.h.stride a.upper.now a.lower.now (length a.dc.now) a.at) ≡ 0
 none c =
     let a = (start c).args in
     let z : c.before.preview_number-x.result ≡ 0 = omega (arith, c.if-x-gt0.false) in
     sym (c.before.preview_number-x.ensures a.upper.now a.lower.now refl refl) ∙ z
 
-legal : (c : goal.Else-x-gt0) → let a = (start c).args in Yes a.shift a.h.stride a.upper.now a.lower.now a.at
+legal : (c : Else-x-gt0) → let a = (start c).args in Yes a.shift a.h.stride a.upper.now a.lower.now a.at
 legal c =
     let a = (start c).args in
     yes a.shift a.h.place a.h.stride a.upper.now a.lower.now (length a.dc.now) a.at (none c)

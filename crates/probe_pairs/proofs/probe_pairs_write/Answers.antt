@@ -8,12 +8,13 @@ use lib.ListN.{length, get_or}
 use Rattle.probe_pairs.specs.Kept.{Fits, Grown}
 use Rattle.probe_pairs.proofs.Writer.{room_of_lem, grown_of, both_long, pair_fits, end_fits}
 use Rattle.probe_pairs.proofs.probe_pairs_write.Goals as goal
+use Rattle.probe_pairs.proofs.probe_pairs_write.Goals.{At-loop-i, Else-not-taken, Start}
 
-abbrev start : goal.At-loop-i → goal.Start
+abbrev start : At-loop-i → Start
 start l = l.before.before.before.before.before.before.before
 
 -- what was asked once
-roomy : (l : goal.At-loop-i) → let a = (start l).args in (a.at ≤ length a.out.now) × (length a.runs.now ≤ (length a.out.now - a.at) / 8)
+roomy : (l : At-loop-i) → let a = (start l).args in (a.at ≤ length a.out.now) × (length a.runs.now ≤ (length a.out.now - a.at) / 8)
 roomy l = (search rules, search rules)
 
 pub loop-i-init : goal.loop-i-init
@@ -24,7 +25,7 @@ not_false true e = refl
 not_false false e = sym e
 
 -- what `taken` said of a pair
-pair_of : (e : goal.Else-not-taken) → let a = (start e.before.before.before.before.before).args in let i = e.before.before.before.before.before.loop-i.i in
+pair_of : (e : Else-not-taken) → let a = (start e.before.before.before.before.before).args in let i = e.before.before.before.before.before.loop-i.i in
     (get_or a.runs.now i 0 < 2 ^ 17) × (0 < get_or a.codes.now i 0) × (get_or a.codes.now i 0 < 2 ^ 15)
 pair_of e = e.before.taken.ensures (not_false e.before.taken.result e.if-not-taken.false)
 

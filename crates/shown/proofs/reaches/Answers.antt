@@ -1,3 +1,4 @@
+-- `shown::reaches`.
 use native.Mathlib.Omega.{arith}
 use Rattle.shown.proofs.Laws.{reach_none, reach}
 use Rattle.shown.proofs.reaches.Goals as goal

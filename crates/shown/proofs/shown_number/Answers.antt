@@ -1,3 +1,4 @@
+-- `shown::shown_number`: one question after the other, from the last to the first.
 use mathlib.Core.Path.{◌∙◌, ap₂}
 use mathlib.Core.Bool.{Bool, ◌&&◌}
 use Prim.Native.Nat.{ℕ}

@@ -1,3 +1,4 @@
+-- `shown::shown_time`.
 use borrow.Author.Tests.{eq-eqb, ne_eqb}
 use Rattle.shown.specs.Shown.{time_of}
 use Rattle.shown.proofs.shown_time.Goals as goal

@@ -1,3 +1,4 @@
+use mir.Syntax.{w32}
 use borrow.Author.Rules.{sfits_of}
 use mathlib.Core.Path.{refl}
 use Prim.Native.Nat.{◌-◌}
@@ -25,14 +26,14 @@ pub loop-k-preserved : goal.loop-k-preserved
 loop-k-preserved c =
     let l = c.before.before.before in
     let a = l.before.args in
-    gather 4 (selector a.imm) a.t1 l.loop-k.r l.loop-k.k (omega arith) l.loop-k.invariant (sfits_of c.r-1.given) c.before.selector-p.ensures
+    gather {w = w32} 4 (selector a.imm) a.a l.loop-k.r l.loop-k.k (omega arith) l.loop-k.invariant (sfits_of c.r-1.given) c.before.selector-p.ensures
 
 pub returns : goal.returns
 unfolding mm_shuffle_epi32
 returns c =
     let l = c.before in
     let a = l.before.args in
-    filled_done 4 (λ i. lane a.t1 (selector a.imm i)) l.loop-k.r l.loop-k.k (omega arith) l.loop-k.invariant
+    filled_done 4 (λ i. lane a.a (selector a.imm i)) l.loop-k.r l.loop-k.k (omega arith) l.loop-k.invariant
 
 pub loop-k-init : goal.loop-k-init
 loop-k-init c = (omega arith, (refl, refl))

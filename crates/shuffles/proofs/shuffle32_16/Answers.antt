@@ -1,3 +1,4 @@
+use mir.Syntax.{w16}
 use borrow.Author.Rules.{sfits_of}
 use mathlib.Core.Path.{refl}
 use Prim.Native.Nat.{◌-◌}
@@ -25,14 +26,14 @@ pub loop-k-preserved : goal.loop-k-preserved
 loop-k-preserved c =
     let l = c.before.before.before in
     let a = l.before.args in
-    gather 8 (pair_place a.imm) a.t1 l.loop-k.r l.loop-k.k (omega arith) l.loop-k.invariant (sfits_of c.r-1.given) c.before.pair_place-p.ensures
+    gather {w = w16} 8 (pair_place a.imm) a.a l.loop-k.r l.loop-k.k (omega arith) l.loop-k.invariant (sfits_of c.r-1.given) c.before.pair_place-p.ensures
 
 pub returns : goal.returns
 unfolding mm_shuffle_epi32_16
 returns c =
     let l = c.before in
     let a = l.before.args in
-    filled_done 8 (λ i. lane a.t1 (pair_place a.imm i)) l.loop-k.r l.loop-k.k (omega arith) l.loop-k.invariant
+    filled_done 8 (λ i. lane a.a (pair_place a.imm i)) l.loop-k.r l.loop-k.k (omega arith) l.loop-k.invariant
 
 pub loop-k-init : goal.loop-k-init
 loop-k-init c = (omega arith, (refl, refl))

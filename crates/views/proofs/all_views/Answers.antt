@@ -9,28 +9,29 @@ use Rattle.views.specs.Table.{views_as, with_table}
 use Rattle.views.specs.both.Views.{walked_says}
 use Rattle.views.proofs.Laws.{views_no, Yes, views_yes}
 use Rattle.views.proofs.all_views.Goals as goal
+use Rattle.views.proofs.all_views.Goals.{After-views_number-x, After-walk_any, Else-x-gt0, Start}
 
 -- the arguments
-abbrev w : goal.Start → ℕ
+abbrev w : Start → ℕ
 w s = s.args.width
 
-abbrev h : goal.Start → ℕ
+abbrev h : Start → ℕ
 h s = s.args.height
 
-abbrev f : goal.Start → List ℕ
+abbrev f : Start → List ℕ
 f s = s.args.frame.now
 
-abbrev room : goal.Start → ℕ
+abbrev room : Start → ℕ
 room s = length s.args.table.now
 
 -- after the questions
-abbrev start : goal.After-views_number-x → goal.Start
+abbrev start : After-views_number-x → Start
 start n = n.before.before.before
 
-abbrev first : goal.After-walk_any → goal.Else-x-gt0
+abbrev first : After-walk_any → Else-x-gt0
 first a = a.before.before
 
-yes : (e : goal.Else-x-gt0) → Yes (w (start e.before)) (h (start e.before)) (f (start e.before)) (room (start e.before))
+yes : (e : Else-x-gt0) → Yes (w (start e.before)) (h (start e.before)) (f (start e.before)) (room (start e.before))
 yes e =
     let s = start e.before in
     views_yes (w s) (h s) (f s) (room s) e.before.views_number-x.ensures e.if-x-gt0.false

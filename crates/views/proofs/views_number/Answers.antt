@@ -12,14 +12,15 @@ use Rattle.layout.proofs.Laws.{sized}
 use Rattle.parser.specs.head.Header.{header_questions}
 use Rattle.views.specs.Table.{table_question}
 use Rattle.views.proofs.views_number.Goals as goal
+use Rattle.views.proofs.views_number.Goals.{Start, Then-size}
 
 -- the questions after the first
-abbrev rest : goal.Start → List Question
+abbrev rest : Start → List Question
 rest s =
     let a = s.args in
     table_question a.height a.room ∷ header_questions a.width a.height a.frame.now
 
-size_yes : (c : goal.Then-size) → size_ok c.before.before.before.args.width c.before.before.before.args.height ≡ true
+size_yes : (c : Then-size) → size_ok c.before.before.before.args.width c.before.before.before.args.height ≡ true
 size_yes c = sym c.before.Size-ok.ensures ∙ c.if-size.true
 
 pub table_ok-table-requires : goal.table_ok-table-requires

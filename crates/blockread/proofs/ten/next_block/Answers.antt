@@ -10,6 +10,7 @@ use Rattle.blockread.proofs.Good.{first_steps, first_places}
 use Rattle.blockread.proofs.Flat.{all_zeros}
 use Rattle.acread.specs.through.Codes.{step_of}
 use Rattle.blockread.proofs.ten.next_block.Goals as goal
+use Rattle.blockread.proofs.ten.next_block.Goals.{Joined-s-lt64}
 
 pub read_block-g-requires : goal.read_block-g-requires
 read_block-g-requires c =
@@ -18,7 +19,7 @@ read_block-g-requires c =
     (omega (arith, s.requires.2), s.requires.0.few, s.requires.4, s.requires.5, refl, first_places a.shift 0 a.dc.now a.ac.now a.s s.requires.6)
 
 -- read, or all zeros
-placed : (j : goal.Joined-s-lt64) → let a = j.before.before.before.before.args in Placed a.ac.now a.s.ac a.s.pending j.if-s-lt64.g j.if-s-lt64.nat
+placed : (j : Joined-s-lt64) → let a = j.before.before.before.before.args in Placed a.ac.now a.s.ac a.s.pending j.if-s-lt64.g j.if-s-lt64.nat
 placed j =
     let s = j.before.before.before.before in
     let a = s.args in

@@ -5,9 +5,10 @@ use Rattle.calls.specs.Arguments.{ten, buffers}
 use Rattle.calls.specs.Views.{settings_by, plane_by, positions_by}
 use Rattle.decoder.proofs.Planes.{may_store, plane_refused, plane_accepted}
 use Rattle.decoder.proofs.ten.decode_plane.Goals as goal
+use Rattle.decoder.proofs.ten.decode_plane.Goals.{Else-n-gt0}
 
 -- the verdict was 0
-none : (c : goal.Else-n-gt0) → c.before.plane-n.result ≡ 0
+none : (c : Else-n-gt0) → c.before.plane-n.result ≡ 0
 none c = omega (arith, c.if-n-gt0.false)
 
 pub returns-then-n-gt0 : goal.returns-then-n-gt0

@@ -6,22 +6,23 @@ use Rattle.calls.specs.Views.{positions_by, slice_call}
 use Rattle.slice.specs.Calls.{decode}
 use Rattle.decoder.proofs.Slices.{may_store, slice_refused, slice_accepted}
 use Rattle.decoder.proofs.ten.decode_slice.Goals as goal
+use Rattle.decoder.proofs.ten.decode_slice.Goals.{After-slice-number, Else-number-gt0, Start}
 
-abbrev start : goal.After-slice-number → goal.Start
+abbrev start : After-slice-number → Start
 start n = n.before.before.before.before.before.before.before
 
-abbrev call : goal.Start → Call
+abbrev call : Start → Call
 call s = slice_call ten s.args.s s.args.f s.args.p0.now s.args.p1.now s.args.p2.now s.args.p3.now
 
-abbrev given : goal.Start → Buffers
+abbrev given : Start → Buffers
 given s = buffers s.args.dc.now s.args.ac.now
 
 -- the verdict
-number : (n : goal.After-slice-number) → let s = start n in n.slice-number.result ≡ (decode (call s) (given s) (positions_by s.args.at)).number
+number : (n : After-slice-number) → let s = start n in n.slice-number.result ≡ (decode (call s) (given s) (positions_by s.args.at)).number
 number n = let a = (start n).args in n.slice-number.ensures ten a.p0.now a.p1.now a.p2.now a.p3.now refl refl refl refl
 
 -- it was 0
-none : (c : goal.Else-number-gt0) → c.before.slice-number.result ≡ 0
+none : (c : Else-number-gt0) → c.before.slice-number.result ≡ 0
 none c = omega (arith, c.if-number-gt0.false)
 
 pub returns-then-number-gt0 : goal.returns-then-number-gt0

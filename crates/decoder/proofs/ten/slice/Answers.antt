@@ -5,8 +5,9 @@ use Rattle.calls.specs.Arguments.{ten, buffers}
 use Rattle.calls.specs.Views.{settings_by, rows_by, positions_by}
 use Rattle.decoder.proofs.Passes.{Given, ask_0, whole_1, ask_1, whole_2, ask_2, whole_3, ask_3, whole_4}
 use Rattle.decoder.proofs.ten.slice.Goals as goal
+use Rattle.decoder.proofs.ten.slice.Goals.{After-plane, After-plane-e0, After-plane-e1, After-plane-e2, Else-count-lt2, Else-count-lt3, Else-count-lt4, Start}
 
-abbrev given : goal.Start → Given
+abbrev given : Start → Given
 given s =
     let a = s.args in
     record {
@@ -21,26 +22,26 @@ given s =
     }
 
 -- the places after each pass
-abbrev start : goal.After-plane-e0 → goal.Start
+abbrev start : After-plane-e0 → Start
 start c = c.before.before.before.before.before.before.before.before.before
 
-abbrev plane_0 : goal.After-plane-e1 → goal.After-plane-e0
+abbrev plane_0 : After-plane-e1 → After-plane-e0
 plane_0 c = c.before.before.before.before.before
 
-abbrev plane_1 : goal.After-plane-e2 → goal.After-plane-e1
+abbrev plane_1 : After-plane-e2 → After-plane-e1
 plane_1 c = c.before.before.before.before.before
 
-abbrev plane_2 : goal.After-plane → goal.After-plane-e2
+abbrev plane_2 : After-plane → After-plane-e2
 plane_2 c = c.before.before.before.before.before
 
 -- a further plane was asked for
-more_1 : (c : goal.Else-count-lt2) → 2 ≤ (start c.before.before.before).args.f.count
+more_1 : (c : Else-count-lt2) → 2 ≤ (start c.before.before.before).args.f.count
 more_1 c = c.if-count-lt2.false
 
-more_2 : (c : goal.Else-count-lt3) → 3 ≤ (start (plane_0 c.before.before.before)).args.f.count
+more_2 : (c : Else-count-lt3) → 3 ≤ (start (plane_0 c.before.before.before)).args.f.count
 more_2 c = c.if-count-lt3.false
 
-more_3 : (c : goal.Else-count-lt4) → 4 ≤ (start (plane_0 (plane_1 c.before.before.before))).args.f.count
+more_3 : (c : Else-count-lt4) → 4 ≤ (start (plane_0 (plane_1 c.before.before.before))).args.f.count
 more_3 c = c.if-count-lt4.false
 
 pub plane-e0-requires : goal.plane-e0-requires

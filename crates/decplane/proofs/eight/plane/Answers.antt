@@ -9,24 +9,25 @@ use Rattle.calls.specs.Arguments.{eight, settings, plane, buffers}
 use Rattle.calls.specs.Views.{settings_by, plane_by, positions_by}
 use Rattle.decplane.proofs.Loops.{Behind, begun, as_long, asks, inside, room, next, next_row, ended, done}
 use Rattle.decplane.proofs.eight.plane.Goals as goal
+use Rattle.decplane.proofs.eight.plane.Goals.{After-begin-stand, After-corner-c, After-next-1, After-paint, At-loop-j, In-loop-k, Start}
 
-abbrev start : goal.After-begin-stand → goal.Start
+abbrev start : After-begin-stand → Start
 start c = c.before.before.before.before.before.before.before.before
 
 -- from a turn's end to its painting, and to its start
-abbrev painting : goal.After-next-1 → goal.After-paint
+abbrev painting : After-next-1 → After-paint
 painting c = c.before.before.before
 
-abbrev turn : goal.After-paint → goal.In-loop-k
+abbrev turn : After-paint → In-loop-k
 turn w = w.before.before.before.before.before.before.before.before
 
 -- the blocks so far in a turn of the outer loop
-behind : (l : goal.At-loop-j) → let a = (start l.before).args in
+behind : (l : At-loop-j) → let a = (start l.before).args in
     Behind (settings_by eight a.s) (plane_by a.h a.rows.now) (buffers a.dc.now a.ac.now) (positions_by a.at) l.loop-j.j 0 l.loop-j.stand l.loop-j.rows
 behind l = let s = start l.before in l.loop-j.invariant.1 (positions_by s.args.at) s.pre (begun l.before.begin-stand.result l.before.begin-stand.ensures)
 
 -- the blocks so far in a turn of the inner loop
-sofar : (c : goal.In-loop-k) → let l2 = c.before in let l = l2.before.before in let a = (start l.before).args in
+sofar : (c : In-loop-k) → let l2 = c.before in let l = l2.before.before in let a = (start l.before).args in
     Behind (settings_by eight a.s) (plane_by a.h a.rows.now) (buffers a.dc.now a.ac.now) (positions_by a.at) l.loop-j.j l2.loop-k.k l2.loop-k.stand l2.loop-k.rows
 sofar c = let l2 = c.before in let l = l2.before.before in let s = start l.before in l2.loop-k.invariant.1 (positions_by s.args.at) s.args.rows.now s.pre (behind l)
 
@@ -57,7 +58,7 @@ corner-c-requires c =
     (omega (arith, l2.before.loop-j-test.true), s.pre.plane.stride_le, omega (arith, i2.loop-k-test.true, s.pre.plane.stride_le))
 
 -- the block lies in the rows
-there : (k : goal.After-corner-c) → let l2 = k.before.before.before.before.before in let s = start l2.before.before.before in
+there : (k : After-corner-c) → let l2 = k.before.before.before.before.before in let s = start l2.before.before.before in
     k.corner-c.result + (7 * s.args.h.stride + 8) ≤ length l2.loop-k.rows
 there k =
     let i2 = k.before.before.before.before in

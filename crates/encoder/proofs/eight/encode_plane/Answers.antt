@@ -5,29 +5,30 @@ use Rattle.calls.specs.Arguments.{eight, Settings, Plane, one_plane, PerStream, 
 use Rattle.calls.specs.Views.{settings_by, plane_by, positions_by}
 use Rattle.encoder.proofs.Answers.{number, refused_is, plane_ok, plane_is}
 use Rattle.encoder.proofs.eight.encode_plane.Goals as goal
+use Rattle.encoder.proofs.eight.encode_plane.Goals.{After-coding_plane-n, Else-n-gt0, Start}
 
 -- what the call was given
-abbrev start : goal.After-coding_plane-n → goal.Start
+abbrev start : After-coding_plane-n → Start
 start c = c.before.before.before.before
 
-abbrev σ_of : goal.Start → Settings
+abbrev σ_of : Start → Settings
 σ_of s = settings_by eight s.args.s
 
-abbrev p_of : goal.Start → Plane
+abbrev p_of : Start → Plane
 p_of s = plane_by s.args.h s.args.rows.now
 
-abbrev b_of : goal.Start → Buffers
+abbrev b_of : Start → Buffers
 b_of s = buffers s.args.dcs.now s.args.acs.now
 
-abbrev at_of : goal.Start → PerStream
+abbrev at_of : Start → PerStream
 at_of s = positions_by s.args.at
 
 -- the number is that of the call's first "no"
-asked : (c : goal.After-coding_plane-n) → let s = start c in c.coding_plane-n.result ≡ number (one_plane (σ_of s) (p_of s)) (b_of s) (at_of s)
+asked : (c : After-coding_plane-n) → let s = start c in c.coding_plane-n.result ≡ number (one_plane (σ_of s) (p_of s)) (b_of s) (at_of s)
 asked c = c.coding_plane-n.ensures eight (start c).args.rows.now refl
 
 -- no question was answered "no"
-none : (c : goal.Else-n-gt0) → c.before.coding_plane-n.result ≡ 0
+none : (c : Else-n-gt0) → c.before.coding_plane-n.result ≡ 0
 none c = omega (arith, c.if-n-gt0.false)
 
 pub returns-then-n-gt0 : goal.returns-then-n-gt0

@@ -5,28 +5,29 @@ use Rattle.calls.specs.Arguments.{ten, Call, PerStream, Buffers, buffers}
 use Rattle.calls.specs.Views.{slice_call, positions_by}
 use Rattle.encoder.proofs.Answers.{number, refused_is, slice_ok, slice_is}
 use Rattle.encoder.proofs.ten.encode_slice.Goals as goal
+use Rattle.encoder.proofs.ten.encode_slice.Goals.{After-coding_slice-number, Else-number-gt0, Start}
 
 -- what the call was given
-abbrev start : goal.After-coding_slice-number → goal.Start
+abbrev start : After-coding_slice-number → Start
 start c = c.before.before.before.before.before.before.before
 
-abbrev call : goal.Start → Call
+abbrev call : Start → Call
 call s = slice_call ten s.args.s s.args.f s.args.p0.now s.args.p1.now s.args.p2.now s.args.p3.now
 
-abbrev b_of : goal.Start → Buffers
+abbrev b_of : Start → Buffers
 b_of s = buffers s.args.dcs.now s.args.acs.now
 
-abbrev at_of : goal.Start → PerStream
+abbrev at_of : Start → PerStream
 at_of s = positions_by s.args.at
 
 -- the number is that of the call's first "no"
-asked : (c : goal.After-coding_slice-number) → let s = start c in c.coding_slice-number.result ≡ number (call s) (b_of s) (at_of s)
+asked : (c : After-coding_slice-number) → let s = start c in c.coding_slice-number.result ≡ number (call s) (b_of s) (at_of s)
 asked c =
     let s = start c in
     c.coding_slice-number.ensures ten s.args.p0.now s.args.p1.now s.args.p2.now s.args.p3.now refl refl refl refl
 
 -- no question was answered "no"
-none : (c : goal.Else-number-gt0) → c.before.coding_slice-number.result ≡ 0
+none : (c : Else-number-gt0) → c.before.coding_slice-number.result ≡ 0
 none c = omega (arith, c.if-number-gt0.false)
 
 pub returns-then-number-gt0 : goal.returns-then-number-gt0

@@ -5,8 +5,9 @@ use Rattle.calls.specs.Arguments.{ten, buffers}
 use Rattle.calls.specs.Views.{settings_by, rows_by, positions_by}
 use Rattle.encoder.proofs.Slices.{Given, First, ask_0, did_0, ask_1, did_1, ask_2, did_2, ask_3, did_3, whole, at_most, less_than}
 use Rattle.encoder.proofs.ten.slice.Goals as goal
+use Rattle.encoder.proofs.ten.slice.Goals.{After-plane, After-plane-e0, After-plane-e1, After-plane-e2, Else-count-lt2, Else-count-lt3, Else-count-lt4, Start}
 
-abbrev given : goal.Start → Given
+abbrev given : Start → Given
 given s =
     record {
       σ = settings_by ten s.args.s;
@@ -20,39 +21,39 @@ given s =
     }
 
 -- the places after each call of the plane coder
-abbrev start : goal.After-plane-e0 → goal.Start
+abbrev start : After-plane-e0 → Start
 start c = c.before.before.before.before.before.before.before.before.before.before
 
-abbrev plane_0 : goal.After-plane-e1 → goal.After-plane-e0
+abbrev plane_0 : After-plane-e1 → After-plane-e0
 plane_0 c = c.before.before.before.before.before.before.before.before
 
-abbrev plane_1 : goal.After-plane-e2 → goal.After-plane-e1
+abbrev plane_1 : After-plane-e2 → After-plane-e1
 plane_1 c = c.before.before.before.before.before.before.before.before
 
-abbrev plane_2 : goal.After-plane → goal.After-plane-e2
+abbrev plane_2 : After-plane → After-plane-e2
 plane_2 c = c.before.before.before.before.before.before.before.before
 
 -- a further plane was asked for
-more_1 : (c : goal.Else-count-lt2) → 1 < (start c.before.before.before.before.before).args.f.count
+more_1 : (c : Else-count-lt2) → 1 < (start c.before.before.before.before.before).args.f.count
 more_1 c = c.if-count-lt2.false
 
-more_2 : (c : goal.Else-count-lt3) → 2 < (start (plane_0 c.before.before.before.before.before)).args.f.count
+more_2 : (c : Else-count-lt3) → 2 < (start (plane_0 c.before.before.before.before.before)).args.f.count
 more_2 c = c.if-count-lt3.false
 
-more_3 : (c : goal.Else-count-lt4) → 3 < (start (plane_0 (plane_1 c.before.before.before.before.before))).args.f.count
+more_3 : (c : Else-count-lt4) → 3 < (start (plane_0 (plane_1 c.before.before.before.before.before))).args.f.count
 more_3 c = c.if-count-lt4.false
 
 -- the planes coded so far
-one : (c : goal.After-plane-e0) → First (given (start c)) 1 (positions_by c.plane-e0.result) (buffers c.plane-e0.new.1.1.1.0 c.plane-e0.new.1.1.1.1.0)
+one : (c : After-plane-e0) → First (given (start c)) 1 (positions_by c.plane-e0.result) (buffers c.plane-e0.new.1.1.1.0 c.plane-e0.new.1.1.1.1.0)
 one c = did_0 (given (start c)) (start c).requires c.plane-e0.ensures
 
-two : (c : goal.After-plane-e1) → First (given (start (plane_0 c))) 2 (positions_by c.plane-e1.result) (buffers c.plane-e1.new.1.1.1.0 c.plane-e1.new.1.1.1.1.0)
+two : (c : After-plane-e1) → First (given (start (plane_0 c))) 2 (positions_by c.plane-e1.result) (buffers c.plane-e1.new.1.1.1.0 c.plane-e1.new.1.1.1.1.0)
 two c = let s = start (plane_0 c) in did_1 (given s) s.pre (one (plane_0 c)) (more_1 c.before.before.before) c.plane-e1.ensures
 
-three : (c : goal.After-plane-e2) → First (given (start (plane_0 (plane_1 c)))) 3 (positions_by c.plane-e2.result) (buffers c.plane-e2.new.1.1.1.0 c.plane-e2.new.1.1.1.1.0)
+three : (c : After-plane-e2) → First (given (start (plane_0 (plane_1 c)))) 3 (positions_by c.plane-e2.result) (buffers c.plane-e2.new.1.1.1.0 c.plane-e2.new.1.1.1.1.0)
 three c = let s = start (plane_0 (plane_1 c)) in did_2 (given s) s.pre (two (plane_1 c)) (more_2 c.before.before.before) c.plane-e2.ensures
 
-four : (c : goal.After-plane) → First (given (start (plane_0 (plane_1 (plane_2 c))))) 4 (positions_by c.plane.result) (buffers c.plane.new.1.1.1.0 c.plane.new.1.1.1.1.0)
+four : (c : After-plane) → First (given (start (plane_0 (plane_1 (plane_2 c))))) 4 (positions_by c.plane.result) (buffers c.plane.new.1.1.1.0 c.plane.new.1.1.1.1.0)
 four c = let s = start (plane_0 (plane_1 (plane_2 c))) in did_3 (given s) s.pre (three (plane_2 c)) (more_3 c.before.before.before) c.plane.ensures
 
 pub plane-e0-requires : goal.plane-e0-requires

@@ -11,21 +11,22 @@ use Rattle.planes.proofs.Laws.{corner_fits, part_is}
 use Rattle.encplane.proofs.Laws.{block_16, part_room}
 use Rattle.encplane.proofs.Loops.{Coding, begun, room, coded, next_row, last_room, done}
 use Rattle.encplane.proofs.ten.plane.Goals as goal
+use Rattle.encplane.proofs.ten.plane.Goals.{After-begin-w, After-corner-c, After-fdct_quant_zig16-z, At-loop-i, At-loop-j, Start}
 
 -- what the call was given
-abbrev start : goal.After-begin-w → goal.Start
+abbrev start : After-begin-w → Start
 start c = c.before.before.before.before.before.before.before.before
 
-abbrev σ_of : goal.Start → Settings
+abbrev σ_of : Start → Settings
 σ_of s = settings_by ten s.args.s
 
-abbrev p_of : goal.Start → Plane
+abbrev p_of : Start → Plane
 p_of s = plane_by s.args.h s.args.rows.now
 
-abbrev b_of : goal.Start → Buffers
+abbrev b_of : Start → Buffers
 b_of s = buffers s.args.dcs.now s.args.acs.now
 
-abbrev at_of : goal.Start → PerStream
+abbrev at_of : Start → PerStream
 at_of s = positions_by s.args.at
 
 pub encode_numbers-k-requires : goal.encode_numbers-k-requires
@@ -38,11 +39,11 @@ pub loop-i-init : goal.loop-i-init
 loop-i-init c = (omega arith, λ b at x. x)
 
 -- the state before a block row, and in it
-row : (c : goal.At-loop-j) → let s = start c.before in
+row : (c : At-loop-j) → let s = start c.before in
     Coding (σ_of s) (p_of s) (b_of s) (at_of s) c.loop-j.j 0 c.loop-j.w c.loop-j.dcs c.loop-j.acs
 row c = let s = start c.before in c.loop-j.invariant.1 (b_of s) (at_of s) (begun (σ_of s) (p_of s) c.before.begin-w.ensures s.pre)
 
-state : (c : goal.At-loop-i) → let l = c.before.before in let s = start l.before in
+state : (c : At-loop-i) → let l = c.before.before in let s = start l.before in
     Coding (σ_of s) (p_of s) (b_of s) (at_of s) l.loop-j.j c.loop-i.i c.loop-i.w c.loop-i.dcs c.loop-i.acs
 state c = let l = c.before.before in let s = start l.before in c.loop-i.invariant.1 (b_of s) (at_of s) (row l)
 
@@ -53,7 +54,7 @@ corner-c-requires c =
     (l2.before.loop-j-test.true, s.pre.plane.stride_le, omega (arith, c.loop-i-test.true, s.pre.plane.stride_le))
 
 -- the block lies in the rows
-inside : (c : goal.After-corner-c) → let s = start c.before.before.before.before.before in c.corner-c.result + (7 * s.args.h.stride + 8) ≤ length s.args.rows.now
+inside : (c : After-corner-c) → let s = start c.before.before.before.before.before in c.corner-c.result + (7 * s.args.h.stride + 8) ≤ length s.args.rows.now
 inside c =
     let i2 = c.before in
     let l2 = i2.before in
@@ -78,7 +79,7 @@ fdct_quant_zig16-z-requires c =
     (part_room s.args.rows.now k.corner-c.result s.args.h.stride (inside k), (b.before.before.before.before.level10-v.ensures.1, record { preset = s.args.s.preset; preset_lt = omega (arith, s.pre.settings.preset_le); numbers = b.before.before.before.encode_numbers-k.ensures }))
 
 -- the block's coefficients
-coefficients : (c : goal.After-fdct_quant_zig16-z) →
+coefficients : (c : After-fdct_quant_zig16-z) →
     let i2 = c.before.before.before.before in let l2 = i2.before in let l = l2.before.before in let s = start l.before in
     c.fdct_quant_zig16-z.result ≡ block_coefficients ten s.args.s.preset (p_of s) l.loop-j.j l2.loop-i.i
 coefficients c =

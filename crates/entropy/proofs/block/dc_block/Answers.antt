@@ -9,13 +9,14 @@ use Rattle.bits.specs.Bits.{bits_of, value_code}
 use Rattle.calls.specs.Streams.{step_code}
 use Rattle.entropy.proofs.block.Codes.{code_step, code_some, zero_step_lem, value_step, room_by, put_by}
 use Rattle.entropy.proofs.block.dc_block.Goals as goal
+use Rattle.entropy.proofs.block.dc_block.Goals.{After-to_code, Then-step-eq0}
 
 -- a step of 0
-is_zero : (c : goal.Then-step-eq0) → step_code c.before.before.args.step ≡ bits_of 2 3
+is_zero : (c : Then-step-eq0) → step_code c.before.before.args.step ≡ bits_of 2 3
 is_zero c = let s = c.before.before in zero_step_lem s.args.step (sym (to_z-of_z s.ranges.step) ∙ ap (to_z w32) c.if-step-eq0.true)
 
 -- any other
-not_zero : (c : goal.After-to_code) → step_code c.before.before.before.args.step ≡ value_code c.to_code.result
+not_zero : (c : After-to_code) → step_code c.before.before.before.args.step ≡ value_code c.to_code.result
 not_zero c =
     let s = c.before.before.before in
     value_step s.args.step c.to_code.result (λ q. c.before.if-step-eq0.false (ap (of_z w32) q)) (c.to_code.ensures ∙ ap code_of (to_z-of_z s.ranges.step))

@@ -17,8 +17,9 @@ use Rattle.bitwriter.specs.Pairs.{pair_code}
 use Rattle.entropy.proofs.short.Laws.{pair_asks, pair_put}
 use Rattle.entropy.proofs.block.Walk.{going, Turn, turn, turn_room, gone, whole, room_tail}
 use Rattle.entropy.proofs.eight.ac_block.Goals as goal
+use Rattle.entropy.proofs.eight.ac_block.Goals.{After-pair-arg-1, After-pair-e, In-loop-m, Start}
 
-sized : (c : goal.Start) → length c.args.z.now ≡ 64
+sized : (c : Start) → length c.args.z.now ≡ 64
 sized c = c.requires.1
 
 pub overflow_add-run : goal.overflow_add-run
@@ -33,7 +34,7 @@ loop-m-init c =
     going s.args.z.now s.args.s.a s.args.out.now (s.args.s.run + 1) s.args.mask _ (sized s) s.requires.0 (omega (arith, s.requires.3)) s.requires.6
 
 -- the turn
-turns : (c : goal.In-loop-m) → Turn c.before.before.before.before.before.args.z.now c.before.loop-m.run c.before.loop-m.m c.before.loop-m.at (count_trailing_zeros 64 c.before.loop-m.m)
+turns : (c : In-loop-m) → Turn c.before.before.before.before.before.args.z.now c.before.loop-m.run c.before.loop-m.m c.before.loop-m.at (count_trailing_zeros 64 c.before.loop-m.m)
 turns c = turn (sized c.before.before.before.before.before) c.before.loop-m.invariant c.loop-m-test.true
 
 pub overflow_sub-p : goal.overflow_sub-p
@@ -52,17 +53,17 @@ pub bounds-z-p : goal.bounds-z-p
 bounds-z-p c = omega (arith, (turns c).inside)
 
 -- the value at the place, as it was read
-value_is : (c : goal.After-pair-arg-1) → let l = c.before.before in
+value_is : (c : After-pair-arg-1) → let l = c.before.before in
     to_z w16 (of_z w16 (lane l.before.before.before.before.args.z.now (count_trailing_zeros 64 l.loop-m.m))) ≡ lane l.before.before.before.before.args.z.now (count_trailing_zeros 64 l.loop-m.m)
 value_is c = to_z-of_z (sfits_of c.pair-arg-1.given)
 
 -- what the pair asks
-record Asks (c : goal.After-pair-arg-1) : Type 0 where
+record Asks (c : After-pair-arg-1) : Type 0 where
   run_few : c.before.before.loop-m.run + (count_trailing_zeros 64 c.before.before.loop-m.m - c.before.before.loop-m.at) < 2 ^ 17
   some : 0 < code_of (lane c.before.before.before.before.before.before.args.z.now (count_trailing_zeros 64 c.before.before.loop-m.m))
   small : code_of (lane c.before.before.before.before.before.before.args.z.now (count_trailing_zeros 64 c.before.before.loop-m.m)) < 2 ^ 15
 
-asks : (c : goal.After-pair-arg-1) → Asks c
+asks : (c : After-pair-arg-1) → Asks c
 asks c =
     let t = turns c.before in
     let l = c.before.before in
@@ -80,7 +81,7 @@ pair-e-requires c =
     rw (value_is c) (a.run_few, a.some, a.small, s.requires.4, s.requires.5)
 
 -- the pair that was made
-made : (c : goal.After-pair-e) → let l = c.before.before.before in
+made : (c : After-pair-e) → let l = c.before.before.before in
     c.pair-e.result ≡ pair_code (l.loop-m.run + (count_trailing_zeros 64 l.loop-m.m - l.loop-m.at)) (code_of (lane l.before.before.before.before.args.z.now (count_trailing_zeros 64 l.loop-m.m)))
 made c = let l = c.before.before.before in c.pair-e.ensures ∙ ap (λ (v : ℤ). pair_code (l.loop-m.run + (count_trailing_zeros 64 l.loop-m.m - l.loop-m.at)) (code_of v)) (value_is c.before)
 

@@ -13,19 +13,20 @@ use Rattle.calls.proofs.DcBack.{abs_less}
 use Rattle.calls.proofs.DcNear.{dc_near}
 use Rattle.entropy.proofs.plane.Blocks.{coded_one}
 use Rattle.entropy.proofs.eight.code_block.Goals as goal
+use Rattle.entropy.proofs.eight.code_block.Goals.{After-coded_dc-d, After-diff16}
 
 pred_fits : (z : ℤ) → nat_abs z ≤ 2048 → SFits w16 z
 pred_fits (pos n) h = record { sfits = omega arith }
 pred_fits (negsuc n) h = record { sfits = omega arith }
 
 -- the coded DC, and the step
-dc_is : (c : goal.After-coded_dc-d) → let s = c.before.before.before.before.before.before in
+dc_is : (c : After-coded_dc-d) → let s = c.before.before.before.before.before.before in
     to_z w16 (of_z w16 c.coded_dc-d.result) ≡ coded_dc s.args.shift (lane s.args.z.now 0)
 dc_is c =
     let s = c.before.before.before.before.before.before in
     to_z-of_z (sfits_of c.coded_dc-d.type_inv) ∙ c.coded_dc-d.ensures ∙ ap (coded_dc s.args.shift) (to_z-of_z (sfits_of c.before.coded_dc-arg-1.given))
 
-stepped : (c : goal.After-diff16) → let s = c.before.before.before.before.before.before.before.before in
+stepped : (c : After-diff16) → let s = c.before.before.before.before.before.before.before.before in
     to_z w32 (of_z w32 c.diff16.result) ≡ coded_dc s.args.shift (lane s.args.z.now 0) -ℤ s.args.s.pred
 stepped c =
     let k = c.before.before in

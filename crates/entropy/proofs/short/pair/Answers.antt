@@ -6,13 +6,14 @@ use Rattle.bitwriter.specs.Pairs.{pair_code}
 use Rattle.entropy.specs.short.Tables.{place_of, code_at}
 use Rattle.entropy.proofs.short.Laws.{place_code}
 use Rattle.entropy.proofs.short.pair.Goals as goal
+use Rattle.entropy.proofs.short.pair.Goals.{After-code, After-place-p}
 
 -- the place of the value
-placed : (c : goal.After-place-p) → c.place-p.result ≡ place_of c.before.args.v
+placed : (c : After-place-p) → c.place-p.result ≡ place_of c.before.args.v
 placed c = c.place-p.ensures ∙ ap place_of (to_z-of_z c.before.ranges.v)
 
 -- the code of the value
-coded : (c : goal.After-code) → c.code.result ≡ code_of c.before.before.before.args.v
+coded : (c : After-code) → c.code.result ≡ code_of c.before.before.before.args.v
 coded c = c.code.ensures ∙ ap code_of (to_z-of_z c.before.before.before.ranges.v)
 
 pub returns-then-p-lt255 : goal.returns-then-p-lt255

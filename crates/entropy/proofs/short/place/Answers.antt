@@ -7,9 +7,10 @@ use mir.Syntax.{w16}
 use mir.Val.{SFits, of_z}
 use mir.Facts.{to_z-of_z}
 use Rattle.entropy.proofs.short.place.Goals as goal
+use Rattle.entropy.proofs.short.place.Goals.{After-bits16}
 
 -- the bits of the value
-bits : (c : goal.After-bits16) → c.bits16.result ≡ of_z w16 c.before.args.v
+bits : (c : After-bits16) → c.bits16.result ≡ of_z w16 c.before.args.v
 bits c = c.bits16.ensures ∙ ap (of_z w16) (to_z-of_z c.before.ranges.v)
 
 few : (v : ℤ) → SFits w16 v → of_z w16 v < 65536

@@ -5,11 +5,12 @@ use lib.ListN.{get_or}
 use Rattle.entropy.specs.short.Tables.{code_at}
 use Rattle.entropy.proofs.short.Laws.{RunAt, run_at, ValueAt, value_at, above, both}
 use Rattle.entropy.proofs.short.short_pair.Goals as goal
+use Rattle.entropy.proofs.short.short_pair.Goals.{Start}
 
-run : (s : goal.Start) → RunAt (get_or s.args.runs.now s.args.n 0) s.args.n
+run : (s : Start) → RunAt (get_or s.args.runs.now s.args.n 0) s.args.n
 run s = run_at s.args.runs.now s.args.n s.requires.2 s.requires.0
 
-value : (s : goal.Start) → ValueAt (get_or s.args.values.now s.args.place 0) (code_at s.args.place)
+value : (s : Start) → ValueAt (get_or s.args.values.now s.args.place 0) (code_at s.args.place)
 value s = value_at s.args.values.now s.args.place s.requires.3 s.requires.1
 
 pub overflow_cast-run-2 : goal.overflow_cast-run-2

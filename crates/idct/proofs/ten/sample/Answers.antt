@@ -8,9 +8,10 @@ use Rattle.scalar.specs.Scalar.{min_of, max_of}
 use Rattle.scalar.proofs.Laws.{back}
 use Rattle.idct.proofs.Bounds.{least, clamp_is, least_small, least_ten}
 use Rattle.idct.proofs.ten.sample.Goals as goal
+use Rattle.idct.proofs.ten.sample.Goals.{After-max1-y}
 
 -- what is left of x, read back from its bits
-clamp : (c : goal.After-max1-y) → back w16 c.max1-y.result ≡ pos (least c.before.before.args.x)
+clamp : (c : After-max1-y) → back w16 c.max1-y.result ≡ pos (least c.before.before.args.x)
 clamp c =
     let m = c.before in
     let s = m.before in

@@ -6,18 +6,19 @@ use Rattle.calls.specs.Arguments.{eight, PerStream, Buffers, buffers}
 use Rattle.calls.specs.Views.{positions_by}
 use Rattle.judge.proofs.verdict.Planes.{may_judge, plane_no, plane_bad, plane_good}
 use Rattle.judge.proofs.verdict.plane.Goals as goal
+use Rattle.judge.proofs.verdict.plane.Goals.{After-reading_plane-n, Else-n-gt0, Start}
 
-abbrev start : goal.After-reading_plane-n → goal.Start
+abbrev start : After-reading_plane-n → Start
 start n = n.before.before.before
 
-abbrev given : goal.After-reading_plane-n → Buffers
+abbrev given : After-reading_plane-n → Buffers
 given n = buffers (start n).args.dc.now (start n).args.ac.now
 
-abbrev from : goal.After-reading_plane-n → PerStream
+abbrev from : After-reading_plane-n → PerStream
 from n = positions_by (start n).args.at
 
 -- no question was answered "no"
-none : (c : goal.Else-n-gt0) → c.before.reading_plane-n.result ≡ 0
+none : (c : Else-n-gt0) → c.before.reading_plane-n.result ≡ 0
 none c = omega (arith, c.if-n-gt0.false)
 
 pub returns-then-n-gt0 : goal.returns-then-n-gt0

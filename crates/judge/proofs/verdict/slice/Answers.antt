@@ -8,8 +8,9 @@ use Rattle.calls.specs.Arguments.{Depth, eight, buffers}
 use Rattle.calls.specs.Views.{positions_by}
 use Rattle.judge.proofs.verdict.Slices.{Given, may_judge, slice_no, slice_bad, slice_good}
 use Rattle.judge.proofs.verdict.slice.Goals as goal
+use Rattle.judge.proofs.verdict.slice.Goals.{After-reading_slice-n, Else-n-gt0}
 
-abbrev given : goal.After-reading_slice-n → Depth → List ℕ → List ℕ → List ℕ → List ℕ → Given
+abbrev given : After-reading_slice-n → Depth → List ℕ → List ℕ → List ℕ → List ℕ → Given
 given n depth p0 p1 p2 p3 =
     let a = n.before.before.before.args in
     record {
@@ -25,7 +26,7 @@ given n depth p0 p1 p2 p3 =
     }
 
 -- no question was answered "no"
-none : (c : goal.Else-n-gt0) → c.before.reading_slice-n.result ≡ 0
+none : (c : Else-n-gt0) → c.before.reading_slice-n.result ≡ 0
 none c = omega (arith, c.if-n-gt0.false)
 
 pub returns-then-n-gt0 : goal.returns-then-n-gt0

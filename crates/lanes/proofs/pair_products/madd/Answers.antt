@@ -20,7 +20,7 @@ loop-k-preserved c =
     let l = l1.before.before in
     let a = l.before.args in
     filled_next 4 (λ i. madd_of (lane a.a (2 * i)) (lane a.b (2 * i)) (lane a.a (2 * i + 1)) (lane a.b (2 * i + 1))) l.loop-k.r l.loop-k.k (omega arith) l.loop-k.invariant
-    (lane4 {w = w16} {v = w32} madd_of (sfits_of l1.madd1-arg-1.given) (sfits_of l2.madd1-arg-in-loop-k-1.given) (sfits_of l3.madd1-arg-in-loop-k-2-1.given) (sfits_of l4.madd1-arg-in-loop-k-3-1.given) (sfits_of c.madd1.type_inv) c.madd1.ensures)
+    (lane4 {v = w32} {w = w16} madd_of (sfits_of l1.madd1-arg-1.given) (sfits_of l2.madd1-arg-in-loop-k-1.given) (sfits_of l3.madd1-arg-in-loop-k-2-1.given) (sfits_of l4.madd1-arg-in-loop-k-3-1.given) (sfits_of c.madd1.type_inv) c.madd1.ensures)
 
 pub returns : goal.returns
 unfolding mm_madd_epi16

@@ -14,7 +14,7 @@ pub loop-k-preserved : goal.loop-k-preserved
 loop-k-preserved c =
     let l = c.before.before.before in
     let a = l.before.args in
-    turn1 {v = w16} {w = w16} 8 (λ x. sra_of x a.n) a.a l.loop-k.r l.loop-k.k (omega arith) l.loop-k.invariant (sfits_of c.before.sra16-arg-1.given) (sfits_of c.sra16.type_inv) c.sra16.ensures
+    turn1 {w = w16} {v = w16} 8 (λ x. sra_of x a.n) a.a l.loop-k.r l.loop-k.k (omega arith) l.loop-k.invariant (sfits_of c.before.sra16-arg-1.given) (sfits_of c.sra16.type_inv) c.sra16.ensures
 
 pub returns : goal.returns
 unfolding mm_srai_epi16

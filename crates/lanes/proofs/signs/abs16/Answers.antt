@@ -14,7 +14,7 @@ pub loop-k-preserved : goal.loop-k-preserved
 loop-k-preserved c =
     let l = c.before.before.before in
     let a = l.before.args in
-    turn1 {v = w16} {w = w16} 8 abs_of a.a l.loop-k.r l.loop-k.k (omega arith) l.loop-k.invariant (sfits_of c.before.abs1-arg-1.given) (sfits_of c.abs1.type_inv) c.abs1.ensures
+    turn1 {w = w16} {v = w16} 8 abs_of a.a l.loop-k.r l.loop-k.k (omega arith) l.loop-k.invariant (sfits_of c.before.abs1-arg-1.given) (sfits_of c.abs1.type_inv) c.abs1.ensures
 
 pub returns : goal.returns
 unfolding mm_abs_epi16

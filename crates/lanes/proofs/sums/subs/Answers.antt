@@ -14,7 +14,7 @@ pub loop-k-preserved : goal.loop-k-preserved
 loop-k-preserved c =
     let l = c.before.before.before.before in
     let a = l.before.args in
-    turn2 {v = w16} {w = w16} 8 subs_of a.a a.b l.loop-k.r l.loop-k.k (omega arith) l.loop-k.invariant (sfits_of c.before.before.subs1-arg-1.given) (sfits_of c.before.subs1-arg-in-loop-k-1.given) (sfits_of c.subs1.type_inv) c.subs1.ensures
+    turn2 {w = w16} {v = w16} 8 subs_of a.a a.b l.loop-k.r l.loop-k.k (omega arith) l.loop-k.invariant (sfits_of c.before.before.subs1-arg-1.given) (sfits_of c.before.subs1-arg-in-loop-k-1.given) (sfits_of c.subs1.type_inv) c.subs1.ensures
 
 pub returns : goal.returns
 unfolding mm_subs_epi16

@@ -14,7 +14,7 @@ pub loop-k-preserved : goal.loop-k-preserved
 loop-k-preserved c =
     let l = c.before.before.before.before in
     let a = l.before.args in
-    turn2 {v = w32} {w = w32} 4 add32_of a.a a.b l.loop-k.r l.loop-k.k (omega arith) l.loop-k.invariant (sfits_of c.before.before.add32-arg-1.given) (sfits_of c.before.add32-arg-in-loop-k-1.given) (sfits_of c.add32.type_inv) c.add32.ensures
+    turn2 {w = w32} {v = w32} 4 add32_of a.a a.b l.loop-k.r l.loop-k.k (omega arith) l.loop-k.invariant (sfits_of c.before.before.add32-arg-1.given) (sfits_of c.before.add32-arg-in-loop-k-1.given) (sfits_of c.add32.type_inv) c.add32.ensures
 
 pub returns : goal.returns
 unfolding mm_add_epi32

@@ -1,14 +1,16 @@
+-- `layout::Layout::new`.
 use mathlib.Core.Path.{sym}
 use native.Mathlib.Omega.{arith}
 use Rattle.layout.specs.Geometry.{geometry_of}
 use Rattle.layout.proofs.Laws.{sized_alone, Sized, fits, no_size_lem}
 use Rattle.layout.proofs.Layout.new.Goals as goal
+use Rattle.layout.proofs.Layout.new.Goals.{Else-x-gt0, Start}
 
 -- what the question leaves
-abbrev start : goal.Else-x-gt0 → goal.Start
+abbrev start : Else-x-gt0 → Start
 start t = t.before.before
 
-asked_yes : (t : goal.Else-x-gt0) → Sized (start t).args.width (start t).args.height
+asked_yes : (t : Else-x-gt0) → Sized (start t).args.width (start t).args.height
 asked_yes t = sized_alone (start t).args.width (start t).args.height t.before.size_number-x.ensures t.if-x-gt0.false
 
 pub returns-then-x-gt0 : goal.returns-then-x-gt0

@@ -8,11 +8,12 @@ use Rattle.ask.specs.Ask.{or_else}
 use Rattle.ask.specs.Numbers.{no_size}
 use Rattle.parser.proofs.head.Laws.{bytes_asked, first_two, after_two, two_legal}
 use Rattle.parser.proofs.head.header_number.Goals as goal
+use Rattle.parser.proofs.head.header_number.Goals.{After-both, Start}
 
-abbrev start : goal.After-both → goal.Start
+abbrev start : After-both → Start
 start b = b.before.before.before
 
-two : (b : goal.After-both) → bytes_asked (start b).args.width (start b).args.height (start b).args.f.now ≡ b.both.result
+two : (b : After-both) → bytes_asked (start b).args.width (start b).args.height (start b).args.f.now ≡ b.both.result
 two b = sym (b.both.ensures ∙ ap (λ (s : Bool). s && leb 5 (length (start b).args.f.now)) b.before.Size-ok.ensures)
 
 pub byte_number-requires : goal.byte_number-requires

@@ -10,9 +10,10 @@ use Rattle.calls.specs.Questions.{report_questions}
 use Rattle.preview.proofs.report.Asked.{yes, answer_no, answer_bad, answer_end}
 use Rattle.acread.proofs.through.Blocks.{not_good}
 use Rattle.preview.proofs.report.block_report.Goals as goal
+use Rattle.preview.proofs.report.block_report.Goals.{Else-x-gt0}
 
 -- no question was answered "no"
-none : (c : goal.Else-x-gt0)
+none : (c : Else-x-gt0)
     → let a = c.before.before.before.before.args in first_no (report_questions a.stride a.report.now (length a.ac.now) a.at) ≡ 0
 none c =
     let a = c.before.before.before.before.args in

@@ -8,11 +8,12 @@ use Rattle.tables.specs.Reciprocal.{high_half, two_high}
 use Rattle.quant.specs.one.Sign.{with_sign}
 use Rattle.quant.proofs.one.Signs.{magnitude_small}
 use Rattle.quant.proofs.one.quant1.Goals as goal
+use Rattle.quant.proofs.one.quant1.Goals.{After-magnitude, After-mulhi_u-2}
 
-known : (c : goal.After-magnitude) → c.magnitude.result ≡ nat_abs c.before.args.x
+known : (c : After-magnitude) → c.magnitude.result ≡ nat_abs c.before.args.x
 known c = rw (to_z-of_z c.before.ranges.x) at c.magnitude.ensures
 
-chain : (c : goal.After-mulhi_u-2) → c.mulhi_u-2.result
+chain : (c : After-mulhi_u-2) → c.mulhi_u-2.result
     ≡ two_high c.before.before.before.args.c c.before.before.before.args.r c.before.before.before.args.s (nat_abs c.before.before.before.args.x)
 chain c =
     let a = c.before.before.before.args in

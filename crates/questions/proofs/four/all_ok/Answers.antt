@@ -8,21 +8,22 @@ use native.Mathlib.Omega.{arith}
 use Rattle.questions.specs.four.Firsts.{all_of}
 use Rattle.questions.proofs.four.Laws.{yes_here, no_here, none_left, last_here}
 use Rattle.questions.proofs.four.all_ok.Goals as goal
+use Rattle.questions.proofs.four.all_ok.Goals.{Else-not-b0, Else-not-b1, Else-not-b2}
 
 -- the answers passed: one, two, three
-past_one : (c : goal.Else-not-b0) → let a = c.before.before.args in
+past_one : (c : Else-not-b0) → let a = c.before.before.args in
     all_of (take a.count (a.b0 ∷ a.b1 ∷ a.b2 ∷ a.b3 ∷ [])) ≡ all_of (take (a.count - 1) (a.b1 ∷ a.b2 ∷ a.b3 ∷ []))
 past_one c =
     let a = c.before.before.args in
     yes_here a.count (a.count - 1) (a.b1 ∷ a.b2 ∷ a.b3 ∷ []) (omega arith) (not-false a.b0 c.if-not-b0.false)
 
-past_two : (c : goal.Else-not-b1) → let a = c.before.before.before.before.args in
+past_two : (c : Else-not-b1) → let a = c.before.before.before.before.args in
     all_of (take a.count (a.b0 ∷ a.b1 ∷ a.b2 ∷ a.b3 ∷ [])) ≡ all_of (take (a.count - 2) (a.b2 ∷ a.b3 ∷ []))
 past_two c =
     let a = c.before.before.before.before.args in
     past_one c.before.before ∙ yes_here (a.count - 1) (a.count - 2) (a.b2 ∷ a.b3 ∷ []) (omega arith) (not-false a.b1 c.if-not-b1.false)
 
-past_three : (c : goal.Else-not-b2) → let a = c.before.before.before.before.before.before.args in
+past_three : (c : Else-not-b2) → let a = c.before.before.before.before.before.before.args in
     all_of (take a.count (a.b0 ∷ a.b1 ∷ a.b2 ∷ a.b3 ∷ [])) ≡ all_of (take (a.count - 3) (a.b3 ∷ []))
 past_three c =
     let a = c.before.before.before.before.before.before.args in

@@ -8,9 +8,10 @@ use lib.Seq.{take_all}
 use Rattle.calls.specs.Views.{stride_by}
 use Rattle.questions.specs.four.Firsts.{of_four, sum_of}
 use Rattle.questions.proofs.four.columns.Goals as goal
+use Rattle.questions.proofs.four.columns.Goals.{After-column-c3}
 
 -- all four columns are known
-record Four (c : goal.After-column-c3) : Type 0 where
+record Four (c : After-column-c3) : Type 0 where
   first : c.before.before.before.column-c0.result ≡ stride_by c.before.before.before.before.before.args.f 0 / 8
   second : c.before.before.column-c1.result ≡ stride_by c.before.before.before.before.before.args.f 1 / 8
   third : c.before.column-c2.result ≡ stride_by c.before.before.before.before.before.args.f 2 / 8
@@ -20,7 +21,7 @@ record Four (c : goal.After-column-c3) : Type 0 where
   small3 : c.before.column-c2.result < 2 ^ 61
   small4 : c.column-c3.result < 2 ^ 61
 
-four : (c : goal.After-column-c3) → Four c
+four : (c : After-column-c3) → Four c
 four c =
     record {
       first = c.before.before.before.column-c0.ensures.0;
@@ -47,11 +48,11 @@ sum_four : (n a b c d : ℕ) → 3 < n → a + b + c + d ≡ sum_of (take n (a �
 sum_four n a b c d h = rw (take_all n (a ∷ b ∷ c ∷ d ∷ []) (omega arith)) (omega arith)
 
 -- of the strides' columns
-as_strides : (c : goal.After-column-c3) (n : ℕ) → sum_of (take n (c.before.before.before.column-c0.result ∷ c.before.before.column-c1.result ∷ c.before.column-c2.result ∷ c.column-c3.result ∷ []))
+as_strides : (c : After-column-c3) (n : ℕ) → sum_of (take n (c.before.before.before.column-c0.result ∷ c.before.before.column-c1.result ∷ c.before.column-c2.result ∷ c.column-c3.result ∷ []))
     ≡ sum_of (take n (of_four (λ k. stride_by c.before.before.before.before.before.args.f k / 8)))
 as_strides c n = let f = four c in λ i. sum_of (take n (f.first i ∷ f.second i ∷ f.third i ∷ f.fourth i ∷ []))
 
-abbrev n : goal.After-column-c3 → ℕ
+abbrev n : After-column-c3 → ℕ
 n k = k.before.before.before.before.before.args.f.count
 
 pub returns-then-n-eq1 : goal.returns-then-n-eq1

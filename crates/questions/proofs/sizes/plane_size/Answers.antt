@@ -4,14 +4,15 @@ use Prim.Native.Nat.{◌/◌, ◌≤◌}
 use native.Mathlib.Omega.{arith}
 use Rattle.questions.proofs.sizes.Laws.{plane_refused, plane_sized, plane_columns}
 use Rattle.questions.proofs.sizes.plane_size.Goals as goal
+use Rattle.questions.proofs.sizes.plane_size.Goals.{Else-n-gt0}
 
 pub returns-then-n-gt0 : goal.returns-then-n-gt0
 returns-then-n-gt0 c = plane_refused c.before.before.args.stride c.before.plane_number-n.ensures c.if-n-gt0.true
 
-accepted : (c : goal.Else-n-gt0) → c.before.plane_number-n.result ≡ 0
+accepted : (c : Else-n-gt0) → c.before.plane_number-n.result ≡ 0
 accepted c = omega (arith, c.if-n-gt0.false)
 
-few : (c : goal.Else-n-gt0) → c.before.before.args.stride / 8 ≤ 960
+few : (c : Else-n-gt0) → c.before.before.args.stride / 8 ≤ 960
 few c = plane_columns c.before.before.args.stride c.before.plane_number-n.ensures (accepted c)
 
 pub overflow_mul-result : goal.overflow_mul-result

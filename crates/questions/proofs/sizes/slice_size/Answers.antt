@@ -5,14 +5,15 @@ use native.Mathlib.Omega.{arith}
 use Rattle.calls.specs.Views.{stride_by}
 use Rattle.questions.proofs.sizes.Laws.{slice_refused, slice_sized, slice_columns}
 use Rattle.questions.proofs.sizes.slice_size.Goals as goal
+use Rattle.questions.proofs.sizes.slice_size.Goals.{After-columns-columns, Else-n-gt0}
 
 pub returns-then-n-gt0 : goal.returns-then-n-gt0
 returns-then-n-gt0 c = let f = c.before.before.args.f in slice_refused f.count (stride_by f 0) (stride_by f 1) (stride_by f 2) (stride_by f 3) c.before.slice_number-n.ensures c.if-n-gt0.true
 
-accepted : (c : goal.Else-n-gt0) → c.before.slice_number-n.result ≡ 0
+accepted : (c : Else-n-gt0) → c.before.slice_number-n.result ≡ 0
 accepted c = omega (arith, c.if-n-gt0.false)
 
-few : (c : goal.After-columns-columns) → c.columns-columns.result ≤ 3840
+few : (c : After-columns-columns) → c.columns-columns.result ≤ 3840
 few c =
     let e = c.before in
     let f = e.before.before.args.f in

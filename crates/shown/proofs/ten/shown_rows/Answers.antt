@@ -1,3 +1,4 @@
+-- `shown::ten::shown_rows`.
 use mathlib.Core.Path.{◌≡◌, sym, ◌∙◌, ap₂}
 use native.Mathlib.Omega.{arith}
 use Prim.Native.Nat.{ℕ, ◌*◌, ◌-◌}

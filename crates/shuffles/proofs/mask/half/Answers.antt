@@ -1,8 +1,10 @@
+-- `shuffles::mask::half`.
 use mathlib.Core.Path.{refl}
 use Prim.Native.Nat.{◌+◌, ◌*◌, ◌<◌, ◌≤◌}
 use native.Mathlib.Omega.{arith}
 use Rattle.shuffles.proofs.mask.Weights.{eight_first, eight_later, place_fits, byte_fits, second_fits, third_fits, fourth_fits, put_together}
 use Rattle.shuffles.proofs.mask.half.Goals as goal
+use Rattle.shuffles.proofs.mask.half.Goals.{After-eight-2, After-eight-3, After-eight-4}
 
 to_8 : 8 ≤ 24
 to_8 = omega arith
@@ -34,13 +36,13 @@ overflow_add-p-3 c = let s = c.before.before.before in record { fits = place_fit
 pub eight-requires-4 : goal.eight-requires-4
 eight-requires-4 c = let s = c.before.before.before in eight_later s.args.f.now s.args.p 24 refl to_24 s.requires
 
-two : (c : goal.After-eight-2) → let a = c.before.eight.result in let b = c.eight-2.result in (256 * b < 4294967296) × (a + 256 * b < 4294967296) × (a + 256 * b < 65536)
+two : (c : After-eight-2) → let a = c.before.eight.result in let b = c.eight-2.result in (256 * b < 4294967296) × (a + 256 * b < 4294967296) × (a + 256 * b < 65536)
 two c = second_fits c.before.eight.result c.eight-2.result c.before.eight.type_inv c.eight-2.type_inv
 
-three : (c : goal.After-eight-3) → let s = c.before.before.eight.result + 256 * c.before.eight-2.result in let x = c.eight-3.result in (65536 * x < 4294967296) × (s + 65536 * x < 4294967296) × (s + 65536 * x < 16777216)
+three : (c : After-eight-3) → let s = c.before.before.eight.result + 256 * c.before.eight-2.result in let x = c.eight-3.result in (65536 * x < 4294967296) × (s + 65536 * x < 4294967296) × (s + 65536 * x < 16777216)
 three c = third_fits (c.before.before.eight.result + 256 * c.before.eight-2.result) c.eight-3.result (two c.before).2 c.eight-3.type_inv
 
-four : (c : goal.After-eight-4) → let s = c.before.before.before.eight.result + 256 * c.before.before.eight-2.result + 65536 * c.before.eight-3.result in let x = c.eight-4.result in (16777216 * x < 4294967296) × (s + 16777216 * x < 4294967296)
+four : (c : After-eight-4) → let s = c.before.before.before.eight.result + 256 * c.before.before.eight-2.result + 65536 * c.before.eight-3.result in let x = c.eight-4.result in (16777216 * x < 4294967296) × (s + 16777216 * x < 4294967296)
 four c =
     fourth_fits (c.before.before.before.eight.result + 256 * c.before.before.eight-2.result + 65536 * c.before.eight-3.result) c.eight-4.result (three c.before).2 c.eight-4.type_inv
 

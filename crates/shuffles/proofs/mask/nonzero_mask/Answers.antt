@@ -1,3 +1,4 @@
+-- `shuffles::mask::nonzero_mask`.
 use borrow.Author.Rules.{rules}
 use mathlib.Core.Path.{◌≡◌, refl, sym, subst}
 use Prim.Native.Nat.{◌+◌, ◌*◌, ◌<◌}
@@ -5,11 +6,12 @@ use lib.ListN.{length}
 use Rattle.shuffles.specs.mask.Mask.{Light}
 use Rattle.shuffles.proofs.mask.Weights.{light, half_wide, halves_fit, from_0, from_32, by_halves}
 use Rattle.shuffles.proofs.mask.nonzero_mask.Goals as goal
+use Rattle.shuffles.proofs.mask.nonzero_mask.Goals.{After-half-2, After-weigh_all-f, Start}
 
-sized : (c : goal.Start) → length c.args.zz ≡ 64
+sized : (c : Start) → length c.args.zz ≡ 64
 sized c = search rules
 
-known : (c : goal.After-weigh_all-f) → Light c.weigh_all-f.result
+known : (c : After-weigh_all-f) → Light c.weigh_all-f.result
 known c = subst Light (sym c.weigh_all-f.ensures) (light c.before.args.zz)
 
 pub half-requires : goal.half-requires
@@ -18,7 +20,7 @@ half-requires c = (refl, from_0, known c.before)
 pub half-requires-2 : goal.half-requires-2
 half-requires-2 c = (refl, from_32, known c.before.before.before)
 
-fit : (c : goal.After-half-2) → let s = c.before.before.half.result in let x = c.half-2.result in (4294967296 * x < 18446744073709551616) × (s + 4294967296 * x < 18446744073709551616)
+fit : (c : After-half-2) → let s = c.before.before.half.result in let x = c.half-2.result in (4294967296 * x < 18446744073709551616) × (s + 4294967296 * x < 18446744073709551616)
 fit c = halves_fit c.before.before.half.result c.half-2.result c.before.before.half.type_inv c.half-2.type_inv
 
 pub overflow_mul-result : goal.overflow_mul-result

@@ -1,3 +1,4 @@
+-- `shuffles::mask::weigh`.
 use mathlib.Core.Path.{sym, ap, ◌∙◌}
 use mir.Syntax.{w16}
 use mir.Val.{to_z, of_z}

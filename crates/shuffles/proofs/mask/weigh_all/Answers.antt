@@ -1,3 +1,5 @@
+-- `shuffles::mask::weigh_all` fills the places in order.
+use mir.Syntax.{w16}
 use borrow.Author.Rules.{sfits_of}
 use mathlib.Core.Path.{◌≡◌, refl, ap₂, ◌∙◌}
 use Prim.Native.Nat.{ℕ, ◌-◌, ◌*◌, ◌%◌, ◌^◌}
@@ -9,25 +11,26 @@ use Rattle.scalar.proofs.Fill.{filled_next, filled_done}
 use Rattle.shuffles.specs.mask.Mask.{flag, weighed}
 use Rattle.shuffles.proofs.mask.Weights.{bit_is}
 use Rattle.shuffles.proofs.mask.weigh_all.Goals as goal
+use Rattle.shuffles.proofs.mask.weigh_all.Goals.{After-weigh}
 
 pub loop-i-init : goal.loop-i-init
 loop-i-init c = (omega arith, (refl, refl))
 
 -- the byte of the turn
-known : (c : goal.After-weigh) → let l = c.before.before.before in c.weigh.result ≡ flag (lane l.before.args.t1 l.loop-i.i) * 2 ^ (l.loop-i.i % 8)
+known : (c : After-weigh) → let l = c.before.before.before in c.weigh.result ≡ flag (lane l.before.args.zz l.loop-i.i) * 2 ^ (l.loop-i.i % 8)
 known c =
-    c.weigh.ensures ∙ ap₂ (λ (x : ℤ) (w : ℕ). flag x * w) (to_z-of_z (sfits_of c.before.weigh-arg-1.given)) (bit_is (c.before.before.before.loop-i.i % 8) (omega arith))
+    c.weigh.ensures ∙ ap₂ (λ (x : ℤ) (w : ℕ). flag x * w) (to_z-of_z {w = w16} (sfits_of c.before.weigh-arg-1.given)) (bit_is (c.before.before.before.loop-i.i % 8) (omega arith))
 
 pub loop-i-preserved : goal.loop-i-preserved
 loop-i-preserved c =
     let l = c.before.before.before in
-    filled_next 64 (λ (k : ℕ). flag (lane l.before.args.t1 k) * 2 ^ (k % 8)) l.loop-i.f l.loop-i.i (omega arith) l.loop-i.invariant (known c)
+    filled_next 64 (λ (k : ℕ). flag (lane l.before.args.zz k) * 2 ^ (k % 8)) l.loop-i.f l.loop-i.i (omega arith) l.loop-i.invariant (known c)
 
 pub returns : goal.returns
 unfolding weighed
 returns c =
     let l = c.before in
-    filled_done 64 (λ (k : ℕ). flag (lane l.before.args.t1 k) * 2 ^ (k % 8)) l.loop-i.f l.loop-i.i (omega arith) l.loop-i.invariant
+    filled_done 64 (λ (k : ℕ). flag (lane l.before.args.zz k) * 2 ^ (k % 8)) l.loop-i.f l.loop-i.i (omega arith) l.loop-i.invariant
 
 pub offset_bounds-zz-i : goal.offset_bounds-zz-i
 offset_bounds-zz-i c = omega arith

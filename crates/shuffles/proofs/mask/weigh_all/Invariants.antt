@@ -1,3 +1,4 @@
+-- `shuffles::mask::weigh_all` fills the places in order.
 use Prim.Native.Nat.{ℕ, ◌-◌, ◌*◌, ◌%◌, ◌^◌}
 use Rattle.scalar.specs.Tab.{lane}
 use Rattle.scalar.proofs.Fill.{Filled}

@@ -16,31 +16,32 @@ use Rattle.views.specs.walk.Table.{views_of}
 use Rattle.views.specs.walk.Walk.{walk_left}
 use Rattle.views.proofs.both.Laws.{dc_walks, ac_walks, dc_left, ac_left, none_left, no_dc, no_ac, only_dc_lem, both}
 use Rattle.views.proofs.both.walk.Goals as goal
+use Rattle.views.proofs.both.walk.Goals.{After-walk_views, After-walk_views-then-q-frame, In-At-2, Start}
 
 -- the arguments
-abbrev w : goal.Start → ℕ
+abbrev w : Start → ℕ
 w s = s.args.width
 
-abbrev h : goal.Start → ℕ
+abbrev h : Start → ℕ
 h s = s.args.height
 
-abbrev f : goal.Start → List ℕ
+abbrev f : Start → List ℕ
 f s = s.args.frame.now
 
-abbrev table : goal.Start → List ℕ
+abbrev table : Start → List ℕ
 table s = s.args.table.now
 
-abbrev held : goal.Start → List ℕ
+abbrev held : Start → List ℕ
 held s = s.args.held.now
 
-is_legal : (s : goal.Start) → LegalFrame (w s) (h s) (f s)
+is_legal : (s : Start) → LegalFrame (w s) (h s) (f s)
 is_legal s = legal (w s) (h s) (f s) s.requires.0.yes
 
 -- after the first walk
-abbrev start : goal.After-walk_views → goal.Start
+abbrev start : After-walk_views → Start
 start v = v.before.before.before.before.before.before.before.before
 
-dc_is : (v : goal.After-walk_views) → place_says v.walk_views.result ≡ dc_streams (w (start v)) (h (start v)) (f (start v))
+dc_is : (v : After-walk_views) → place_says v.walk_views.result ≡ dc_streams (w (start v)) (h (start v)) (f (start v))
 dc_is v =
     let s = start v in
     dc_walk (w s) (h s) (f s) v.before.before.before.before.slice_count-slices.ensures v.before.before.max_dc_len-max_dc_len.ensures v.before.before.before.format_at-at.ensures v.walk_views.ensures.0
@@ -63,26 +64,26 @@ walk_views-requires c =
     dc_walks (w s) (h s) (f s) (table s) (held s) (is_legal s) c.before.before.before.slice_count-slices.ensures s.requires.0.room s.requires.1.long c.before.max_dc_len-max_dc_len.ensures c.before.before.format_at-at.ensures
 
 -- its views in the table
-abbrev dc_views : goal.Start → List ℕ
+abbrev dc_views : Start → List ℕ
 dc_views s = views_of (λ i. nth_stream i (max_dc_len (w s)) (f s) (header_length (f s))) (slice_count (h s))
 
-dc_table : (v : goal.After-walk_views) → v.walk_views.new.1.1.1.1.1.0 ≡ walk_left (dc_streams (w (start v)) (h (start v)) (f (start v))) (table (start v)) (held (start v)) 0 (slice_count (h (start v))) (dc_views (start v))
+dc_table : (v : After-walk_views) → v.walk_views.new.1.1.1.1.1.0 ≡ walk_left (dc_streams (w (start v)) (h (start v)) (f (start v))) (table (start v)) (held (start v)) 0 (slice_count (h (start v))) (dc_views (start v))
 dc_table v =
     let s = start v in
     dc_left (w s) (h s) (f s) (table s) (held s) v.walk_views.new.1.1.1.1.1.0 v.before.before.before.before.slice_count-slices.ensures v.before.before.max_dc_len-max_dc_len.ensures v.before.before.before.format_at-at.ensures v.walk_views.ensures.1
 
 -- which end at q
-abbrev first : goal.In-At-2 → goal.After-walk_views
+abbrev first : In-At-2 → After-walk_views
 first k = k.before.before.before.before
 
-dc_there : (k : goal.In-At-2) → dc_streams (w (start (first k))) (h (start (first k))) (f (start (first k))) ≡ accepted k.q-1.given.0.0
+dc_there : (k : In-At-2) → dc_streams (w (start (first k))) (h (start (first k))) (f (start (first k))) ≡ accepted k.q-1.given.0.0
 dc_there k = place_told (dc_is (first k)) k.q-1.given.1
 
 -- after the second walk, which goes on from q
-abbrev at_q : goal.After-walk_views-then-q-frame → goal.In-At-2
+abbrev at_q : After-walk_views-then-q-frame → In-At-2
 at_q u = u.before.before.before.before.before
 
-ac_is : (u : goal.After-walk_views-then-q-frame) → place_says u.walk_views-then-q-frame.result ≡ streams (slice_count (h (start (first (at_q u))))) (max_ac_len (w (start (first (at_q u))))) (f (start (first (at_q u)))) (at_q u).q.given.0.0
+ac_is : (u : After-walk_views-then-q-frame) → place_says u.walk_views-then-q-frame.result ≡ streams (slice_count (h (start (first (at_q u))))) (max_ac_len (w (start (first (at_q u))))) (f (start (first (at_q u)))) (at_q u).q.given.0.0
 ac_is u =
     let v = first (at_q u) in
     let s = start v in
@@ -108,11 +109,11 @@ returns-in-Refused c =
       leaves = no_dc (w s) (h s) (f s) s.pre.0.yes (table s) (held s) s.pre.0.room s.pre.1 (dc_views s) d (dc_table v);
     }
 
-abbrev ac_views : goal.After-walk_views-then-q-frame → List ℕ
+abbrev ac_views : After-walk_views-then-q-frame → List ℕ
 ac_views u = views_of (λ i. nth_stream i (max_ac_len (w (start (first (at_q u))))) (f (start (first (at_q u)))) (at_q u).q.given.0.0) (slice_count (h (start (first (at_q u)))))
 
 -- the table after it
-ac_table : (u : goal.After-walk_views-then-q-frame) → u.walk_views-then-q-frame.new.1.1.1.1.1.0 ≡ walk_left (streams (slice_count (h (start (first (at_q u))))) (max_ac_len (w (start (first (at_q u))))) (f (start (first (at_q u)))) (at_q u).q.given.0.0) (first (at_q u)).walk-views.new.1.1.1.1.1.0 (held (start (first (at_q u)))) (slice_count (h (start (first (at_q u))))) (slice_count (h (start (first (at_q u))))) (ac_views u)
+ac_table : (u : After-walk_views-then-q-frame) → u.walk_views-then-q-frame.new.1.1.1.1.1.0 ≡ walk_left (streams (slice_count (h (start (first (at_q u))))) (max_ac_len (w (start (first (at_q u))))) (f (start (first (at_q u)))) (at_q u).q.given.0.0) (first (at_q u)).walk-views.new.1.1.1.1.1.0 (held (start (first (at_q u)))) (slice_count (h (start (first (at_q u))))) (slice_count (h (start (first (at_q u))))) (ac_views u)
 ac_table u =
     let v = first (at_q u) in
     let s = start v in

@@ -5,8 +5,9 @@ use Rattle.parser.proofs.head.Laws.{legal}
 use Rattle.views.proofs.both.Laws.{few, holding}
 use Rattle.parser.specs.head.Header.{LegalFrame}
 use Rattle.views.proofs.both.walk_with.Goals as goal
+use Rattle.views.proofs.both.walk_with.Goals.{Start}
 
-is_legal : (s : goal.Start) → LegalFrame s.args.width s.args.height s.args.frame.now
+is_legal : (s : Start) → LegalFrame s.args.width s.args.height s.args.frame.now
 is_legal s = legal s.args.width s.args.height s.args.frame.now s.requires.0.yes
 
 pub slice_count-n-requires : goal.slice_count-n-requires
