@@ -1,3 +1,4 @@
+use mir.Syntax.{w16}
 use mathlib.Core.Path.{ap, ◌∙◌}
 use lib.IntN.{ℤ}
 use mir.Facts.{to_z-of_z}
@@ -8,5 +9,5 @@ use Rattle.acpairs.proofs.five.Goals as goal
 
 pub returns : goal.returns
 returns c =
-    to_z-of_z (sfits_of c.sra16.type_inv) ∙ c.sra16.ensures ∙ ap (λ (z : ℤ). sra_of z 11) (to_z-of_z (sfits_of c.before.low.type_inv) ∙ c.before.low.ensures)
+    to_z-of_z {w = w16} (sfits_of c.sra16.type_inv) ∙ c.sra16.ensures ∙ ap (λ (z : ℤ). sra_of z 11) (to_z-of_z {w = w16} (sfits_of c.before.low.type_inv) ∙ c.before.low.ensures)
     ∙ five_is c.before.before.args.x

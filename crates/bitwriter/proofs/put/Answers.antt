@@ -45,4 +45,4 @@ returns c =
     let s = j.before.before.before.before.before in
     let k = filled s.args.a.nbits s.args.n s.requires.2.few j.before.before.if-n-free.false in
     put_full s.args.a s.args.out.now s.args.n s.args.v (64 - s.args.a.nbits) (s.args.n - (64 - s.args.a.nbits)) s.requires.2 s.requires.1 k.0 k.1
-    j.join-2.result c.low.result c.before.before.before.store8.new.0 (omega (arith, s.requires.0)) j.join-2.ensures c.low.ensures c.before.before.before.store8.ensures
+    j.join-2.result c.low.result c.before.before.before.store8.new.out (omega (arith, s.requires.0)) j.join-2.ensures c.low.ensures c.before.before.before.store8.ensures

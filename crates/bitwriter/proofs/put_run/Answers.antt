@@ -15,8 +15,8 @@ overflow_mul-b c = record { fits = omega (arith, (word c).most) }
 
 pub put-requires : goal.put-requires
 put-requires c =
-    let w = word c.before in
+    let w = word (goal.at.put-requires c).After-run_word in
     (omega (arith, w.most), w.fits, room_as w.long c.before.before.before.before.requires.1)
 
 pub returns : goal.returns
-returns c = rw (word c.before.before.before.before).code c.before.before.put.ensures
+returns c = rw (word (goal.at.returns c).After-run_word).code c.before.before.put.ensures

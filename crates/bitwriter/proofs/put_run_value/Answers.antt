@@ -21,10 +21,10 @@ pub put-requires : goal.put-requires
 put-requires c =
     let k = c.before in
     let s = k.before.before in
-    rw k.pair_code-p.ensures ((pair k).few, (pair k).ranges, room_as (pair k).long s.requires.3)
+    rw k.pair_code-p.ensures ((pair (goal.at.put-requires c).After-pair_code-p).few, (pair (goal.at.put-requires c).After-pair_code-p).fits, room_as (pair (goal.at.put-requires c).After-pair_code-p).long s.requires.3)
 
 pub returns : goal.returns
 returns c =
     let k = c.before.before.before.before in
     let s = k.before.before in
-    rw (bits_are s.args.n s.args.c k.pair_code-p.ensures (pair k)) c.before.before.put.ensures
+    rw (bits_are s.args.n s.args.c k.pair_code-p.ensures (pair (goal.at.returns c).After-pair_code-p)) c.before.before.put.ensures

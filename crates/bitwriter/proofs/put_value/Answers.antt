@@ -16,8 +16,8 @@ overflow_sub-n c = omega (arith, (word c).some)
 
 pub put-requires : goal.put-requires
 put-requires c =
-    let w = word c.before in
+    let w = word (goal.at.put-requires c).After-bit_len in
     (omega (arith, w.most), w.fits, room_as w.long c.before.before.before.requires.1)
 
 pub returns : goal.returns
-returns c = rw (word c.before.before.before.before).code c.before.before.put.ensures
+returns c = rw (word (goal.at.returns c).After-bit_len).code c.before.before.put.ensures

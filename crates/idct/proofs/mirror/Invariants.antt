@@ -4,7 +4,6 @@ use lib.IntN.{ℤ}
 use Rattle.shuffles.specs.Shuffles.{mm_shufflehi_epi16}
 use Rattle.lanes.specs.rows.Block.{row_of}
 use Rattle.lanes.proofs.rows.Loops.{RowsPut}
-use Rattle.idct.proofs.mirror.Invariants.{at}
 use Rattle.idct.proofs.mirror.Given as goal
 
 abbrev pub at : List ℤ → ℕ → List ℤ

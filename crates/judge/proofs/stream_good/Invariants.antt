@@ -4,7 +4,6 @@ use Prim.Native.Nat.{ℕ, ◌-◌, ◌≤◌}
 use Rattle.calls.specs.declared.Four.{Four}
 use Rattle.judge.specs.Good.{stream_plane, first_strides}
 use Rattle.judge.proofs.Turns.{Turns}
-use Rattle.judge.proofs.stream_good.Invariants.{four}
 use Rattle.judge.proofs.stream_good.Given as goal
 
 abbrev pub four : ℕ → List ℕ → Four

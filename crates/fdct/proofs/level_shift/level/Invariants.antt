@@ -8,7 +8,6 @@ use mir.Val.{to_z}
 use Rattle.lanes.specs.Lanes.{mm_set1_epi16, mm_adds_epi16}
 use Rattle.lanes.specs.rows.Block.{row_of}
 use Rattle.lanes.proofs.rows.Loops.{RowsPut, TwoRows}
-use Rattle.fdct.proofs.level_shift.level.Invariants.{levelled}
 use Rattle.fdct.proofs.level_shift.level.Given as goal
 
 -- row r, the level added

@@ -4,7 +4,6 @@ use Prim.Native.Nat.{ℕ, ◌-◌, ◌*◌}
 use lib.IntN.{ℤ}
 use Rattle.lanes.proofs.rows.Loops.{RowsPut}
 use Rattle.fdct.specs.load.Samples.{row16_of}
-use Rattle.fdct.proofs.load.load16.Invariants.{row_at}
 use Rattle.fdct.proofs.load.load16.Given as goal
 
 abbrev pub row_at : List ℕ → ℕ → ℕ → List ℤ

@@ -4,7 +4,6 @@ use Prim.Native.Nat.{ℕ, ◌-◌, ◌*◌}
 use lib.IntN.{ℤ}
 use Rattle.lanes.proofs.rows.Loops.{RowsPut}
 use Rattle.fdct.specs.load.Samples.{row8_of}
-use Rattle.fdct.proofs.load.load8.Invariants.{row_at}
 use Rattle.fdct.proofs.load.load8.Given as goal
 
 abbrev pub row_at : List ℕ → ℕ → ℕ → List ℤ

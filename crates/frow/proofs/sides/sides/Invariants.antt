@@ -5,7 +5,6 @@ use lib.IntN.{ℤ}
 use Rattle.lanes.specs.rows.Block.{row_of}
 use Rattle.lanes.proofs.rows.Loops.{RowsPut, TwoRows}
 use Rattle.frow.specs.sides.Halves.{row_sums_of, row_diffs_of}
-use Rattle.frow.proofs.sides.sides.Invariants.{D, S}
 use Rattle.frow.proofs.sides.sides.Given as goal
 
 abbrev pub S : List ℤ → ℕ → List ℤ

@@ -1,4 +1,5 @@
 -- `frow::steps::pairs` fills the places in order. Assumes nothing.
+use mir.Syntax.{w16, w32}
 use borrow.Author.Rules.{rules, sfits_of}
 use mathlib.Core.Path.{◌≡◌, refl, ap, ◌∙◌}
 use Prim.Native.Nat.{◌+◌, ◌-◌, ◌*◌}
@@ -23,7 +24,7 @@ loop-i-preserved c =
     let l = d1.before.before in
     let a = l.before.args in
     filled_next 32 (pair_at a.x a.t) l.loop-i.m l.loop-i.i (omega arith) l.loop-i.invariant
-    (lane4 madd_of (sfits_of d1.madd1-arg-1.given) (sfits_of d2.madd1-arg-in-loop-i-1.given) (sfits_of d3.madd1-arg-in-loop-i-2-1.given) (sfits_of d4.madd1-arg-in-loop-i-3-1.given) (sfits_of c.madd1.type_inv) c.madd1.ensures
+    (lane4 {v = w32} {w = w16} madd_of (sfits_of d1.madd1-arg-1.given) (sfits_of d2.madd1-arg-in-loop-i-1.given) (sfits_of d3.madd1-arg-in-loop-i-2-1.given) (sfits_of d4.madd1-arg-in-loop-i-3-1.given) (sfits_of c.madd1.type_inv) c.madd1.ensures
     ∙ swapped _ _ _ _)
 
 pub returns : goal.returns

@@ -5,7 +5,6 @@ use lib.IntN.{ℤ}
 use Rattle.lanes.specs.rows.Block.{row_of}
 use Rattle.lanes.proofs.rows.Loops.{RowsPut}
 use Rattle.frow.specs.steps.Order.{swap_row}
-use Rattle.frow.proofs.steps.swapped.Invariants.{swaps}
 use Rattle.frow.proofs.steps.swapped.Given as goal
 
 abbrev pub swaps : List ℤ → ℕ → List ℤ

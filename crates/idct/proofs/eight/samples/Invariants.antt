@@ -8,7 +8,6 @@ use Rattle.scalar.specs.Scalar.{adds_of}
 use Rattle.scalar.proofs.Fill.{Filled}
 use Rattle.irow.specs.RowPass.{lane}
 use Rattle.paint.specs.Samples.{sample_of}
-use Rattle.idct.proofs.eight.samples.Invariants.{at}
 use Rattle.idct.proofs.eight.samples.Given as goal
 
 abbrev pub at : ℤ → List ℤ → ℕ → ℕ

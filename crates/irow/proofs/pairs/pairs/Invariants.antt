@@ -4,7 +4,6 @@ use lib.IntN.{ℤ}
 use Rattle.scalar.specs.Scalar.{madd_of}
 use Rattle.scalar.proofs.Fill.{Filled}
 use Rattle.scalar.specs.Tab.{lane}
-use Rattle.irow.proofs.pairs.pairs.Invariants.{at}
 use Rattle.irow.proofs.pairs.pairs.Given as goal
 
 abbrev pub at : List ℤ → List ℤ → ℕ → ℕ → ℤ

@@ -4,7 +4,6 @@ use lib.IntN.{ℤ}
 use Rattle.shuffles.specs.Shuffles.{mm_shuffle_epi32_16}
 use Rattle.lanes.specs.rows.Block.{row_of}
 use Rattle.lanes.proofs.rows.Loops.{RowsPut}
-use Rattle.irow.proofs.pairs.spread.Invariants.{at}
 use Rattle.irow.proofs.pairs.spread.Given as goal
 
 abbrev pub at : List ℤ → ℕ → ℕ → List ℤ
