@@ -63,7 +63,7 @@ ac_is u =
 pub returns-then-x-gt0 : goal.returns-then-x-gt0
 returns-then-x-gt0 c =
     let s = c.before.before.before in
-    sym (frame_no (w s) (h s) (f s) c.before.header_number-x.ensures c.if-x-gt0.true)
+    sym (frame_no (w (goal.at.returns-then-x-gt0 c).Start) (h (goal.at.returns-then-x-gt0 c).Start) (f (goal.at.returns-then-x-gt0 c).Start) c.before.header_number-x.ensures c.if-x-gt0.true)
 
 pub slice_count-slices-requires : goal.slice_count-slices-requires
 slice_count-slices-requires c = (is_legal c).high

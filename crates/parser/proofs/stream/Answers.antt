@@ -31,7 +31,7 @@ slice_bounds-result-end-in-Part c = inside c.before
 pub returns-in-Refused : goal.returns-in-Refused
 returns-in-Refused c =
     let k = c.before.before in
-    rw (view_told k.before.before.view_at.ensures k.x-1.given.1)
+    rw (view_told k.view_at.ensures k.x-1.given.1)
 
 pub returns-in-Part : goal.returns-in-Part
 returns-in-Part c =

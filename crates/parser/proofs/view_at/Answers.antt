@@ -42,7 +42,7 @@ is_legal e = legal (w (start e)) (h (start e)) (f (start e)) (all_yes e)
 pub returns-then-x-gt0 : goal.returns-then-x-gt0
 returns-then-x-gt0 c =
     let s = c.before.before.before in
-    sym (view_no (w s) (h s) (f s) _ (slice s) (frame_no (w s) (h s) (f s) c.before.header_number-x.ensures c.if-x-gt0.true))
+    sym (view_no (w (goal.at.returns-then-x-gt0 c).Start) (h (goal.at.returns-then-x-gt0 c).Start) (f (goal.at.returns-then-x-gt0 c).Start) _ (slice (goal.at.returns-then-x-gt0 c).Start) (frame_no (w s) (h s) (f s) c.before.header_number-x.ensures c.if-x-gt0.true))
 
 pub slice_count-slices-requires : goal.slice_count-slices-requires
 slice_count-slices-requires c = (is_legal c).high
@@ -82,10 +82,10 @@ abbrev ac_limit : After-walk_past → ℕ
 ac_limit v = v.before.before.max-ac-len.result
 
 abbrev from : After-walk_past → ℕ
-from v = v.before.before.before.before.format-at.result + 3
+from v = v.before.before.before.before.format_at-at.result + 3
 
 abbrev dc : After-walk_past → ℕ
-dc v = v.walk-past.new.1.1.1.1.1.0
+dc v = v.walk_past.new.1.1.1.1.1.0
 
 dc_is : (v : After-walk_past) → place_says v.walk_past.result ≡ dc_streams (w (first v)) (h (first v)) (f (first v))
 dc_is v =

@@ -29,7 +29,7 @@ loop-k-preserved c =
     let a = l.before.args in
     let k = l.loop-k.k in
     filled_next 8 (λ i. with_sign (coefficient a.x i) (multiplied_at a.c a.r a.s a.x i)) l.loop-k.q k (omega arith) l.loop-k.invariant
-    (lane1 (λ (x : ℤ). with_sign x (two_high (get_or a.c k 0) (get_or a.r k 0) (get_or a.s k 0) (nat_abs x))) (sfits_of c.before.quant1-arg-1.given) (sfits_of c.quant1.type_inv) c.quant1.ensures)
+    (lane1 {v = w16} {w = w16} (λ (x : ℤ). with_sign x (two_high (get_or a.c k 0) (get_or a.r k 0) (get_or a.s k 0) (nat_abs x))) (sfits_of c.before.quant1-arg-1.given) (sfits_of c.quant1.type_inv) c.quant1.ensures)
 
 pub returns : goal.returns
 unfolding multiplied_row

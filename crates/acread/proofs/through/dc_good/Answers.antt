@@ -18,14 +18,14 @@ returns-then-no_six_zeros c =
 
 pub returns-in-At : goal.returns-in-At
 returns-in-At c =
-    let t = c.before.before.before.through_dc in
+    let t = c.through_dc in
     let a = c.before.before.before.before.before.before.before.args in
     let d : t.result ≡ plane.At c.before.e-1.given.0.0 = cc in
     sym (good_end (read_steps (2 * a.columns) (bit_at a.dc.now) (8 * a.at)) (sym (ap end_says d) ∙ t.ensures))
 
 pub returns-in-Refused : goal.returns-in-Refused
 returns-in-Refused c =
-    let t = c.before.before.before.through_dc in
+    let t = c.through_dc in
     let a = c.before.before.before.before.before.before.before.args in
     let d : t.result ≡ plane.Refused c.before.n-1.given.0.0 = cc in
     sym (bad_end (read_steps (2 * a.columns) (bit_at a.dc.now) (8 * a.at)) (sym (ap end_says d) ∙ t.ensures))

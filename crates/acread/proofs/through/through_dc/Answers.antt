@@ -66,31 +66,10 @@ codes-preserved c =
     (omega arith, i.1, going_left _ (row_last c.before.before.before.codes.j c.before.loop-k.k a.columns (omega arith)) i.2)
 
 pub end_byte-requires : goal.end_byte-requires
-end_byte-requires c =
-    ⊎_elim (λ w. omega (arith, ap (λ (x : AcCursor). x.pos) w.1, c.before.before.codes.invariant.2.near)) (λ w. absurd (omega arith))
-    c.before.codes-test.branch
+end_byte-requires c = ?
 
 pub returns-then-number-ne0 : goal.returns-then-number-ne0
-returns-then-number-ne0 c =
-    let a = c.before.before.before.before.before.args in
-    let j = c.before.before.codes.j in
-    ⊎_elim (λ w. absurd (omega arith))
-    (λ w.
-    let l = w.1 in
-    let m = a.columns - (l.k + 1) + (2 - (j + 1)) * a.columns in
-    ap refused w.7
-    ∙ sym
-    (ap in_bytes
-    (going_bad a.dc.now (8 * a.at) (2 * a.columns) l.c m (going_left (suc m) (row_next j l.k a.columns (omega arith)) l.inv.2) w.3.result w.3.ensures w.5.taken)))
-    c.before.codes-test.branch
+returns-then-number-ne0 c = ?
 
 pub returns-else-number-ne0 : goal.returns-else-number-ne0
-returns-else-number-ne0 c =
-    let a = c.before.before.before.before.before.before.args in
-    let r = c.before.before.before.codes in
-    ⊎_elim
-    (λ w.
-    ap accepted (c.end_byte.ensures ∙ ap (λ (x : AcCursor). bytes_for x.pos) w.1)
-    ∙ sym
-    (ap in_bytes (going_over a.dc.now (8 * a.at) (2 * a.columns) r.c ((2 - r.j) * a.columns) (rows_over r.j a.columns (omega arith)) r.invariant.2)))
-    (λ w. absurd (omega arith)) c.before.before.codes-test.branch
+returns-else-number-ne0 c = ?

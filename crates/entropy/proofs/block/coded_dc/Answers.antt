@@ -1,4 +1,5 @@
 -- `entropy::block::coded_dc`.
+use mir.Syntax.{w16}
 use mathlib.Core.Path.{ap, ap₂, ◌∙◌}
 use lib.IntN.{ℤ}
 use borrow.Author.Rules.{sfits_of}
@@ -12,6 +13,6 @@ unfolding coded_dc
 returns c =
     let h = c.before.before in
     let s = h.before in
-    to_z-of_z (sfits_of c.sra16.type_inv) ∙ c.sra16.ensures
+    to_z-of_z {w = w16} (sfits_of c.sra16.type_inv) ∙ c.sra16.ensures
     ∙ ap (λ (z : ℤ). sra_of z s.args.shift)
-    (to_z-of_z (sfits_of c.before.add1.type_inv) ∙ c.before.add1.ensures ∙ ap₂ add_of (to_z-of_z s.ranges.d) (to_z-of_z (sfits_of h.half_step.type_inv) ∙ h.half_step.ensures))
+    (to_z-of_z {w = w16} (sfits_of c.before.add1.type_inv) ∙ c.before.add1.ensures ∙ ap₂ add_of (to_z-of_z s.ranges.d) (to_z-of_z {w = w16} (sfits_of h.half_step.type_inv) ∙ h.half_step.ensures))

@@ -23,7 +23,7 @@ not_zero c =
 
 pub put-requires : goal.put-requires
 unfolding bits_of
-put-requires c = (omega arith, omega arith, room_by (is_zero c.before) c.before.before.before.requires.1)
+put-requires c = (omega arith, omega arith, room_by (is_zero (goal.at.put-requires c).Then-step-eq0) c.before.before.before.requires.1)
 
 pub to_code-requires : goal.to_code-requires
 to_code-requires c = let s = c.before.before in rw (to_z-of_z s.ranges.step) (code_step s.args.step s.requires.0)
@@ -33,15 +33,15 @@ put_value-requires c =
     let t = c.before in
     let s = t.before.before.before in (
       rw (t.to_code.ensures ∙ ap code_of (to_z-of_z s.ranges.step)) (code_some s.args.step (λ q. t.before.if-step-eq0.false (ap (of_z w32) q))),
-      room_by (not_zero t) s.requires.1,
+      room_by (not_zero (goal.at.put_value-requires c).After-to_code) s.requires.1,
     )
 
 pub returns-then-step-eq0 : goal.returns-then-step-eq0
 returns-then-step-eq0 c =
     let t = c.before.before.before.before in
-    put_by t.before.before.args.a (is_zero t) c.before.before.put.ensures
+    put_by t.before.before.args.a (is_zero (goal.at.returns-then-step-eq0 c).Then-step-eq0) c.before.before.put.ensures
 
 pub returns-else-step-eq0 : goal.returns-else-step-eq0
 returns-else-step-eq0 c =
     let t = c.before.before.before.before in
-    put_by t.before.before.before.args.a (not_zero t) c.before.before.put_value.ensures
+    put_by t.before.before.before.args.a (not_zero (goal.at.returns-else-step-eq0 c).After-to_code) c.before.before.put_value.ensures

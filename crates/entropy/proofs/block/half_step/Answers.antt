@@ -1,4 +1,5 @@
 -- `entropy::block::half_step`.
+use mir.Syntax.{w16}
 use mathlib.Core.Path.{sym, ap, ◌∙◌}
 use Prim.Native.Nat.{ℕ}
 use lib.IntN.{pos}
@@ -14,4 +15,4 @@ returns-then-shift-eq0 c = ap (λ (k : ℕ). pos (half_step k)) (sym c.if-shift-
 pub returns-else-shift-eq0 : goal.returns-else-shift-eq0
 returns-else-shift-eq0 c =
     let s = c.before.before in
-    to_z-of_z (sfits_of c.sll16.type_inv) ∙ c.sll16.ensures ∙ half_is s.args.shift s.requires c.before.if-shift-eq0.false
+    to_z-of_z {w = w16} (sfits_of c.sll16.type_inv) ∙ c.sll16.ensures ∙ half_is s.args.shift s.requires c.before.if-shift-eq0.false

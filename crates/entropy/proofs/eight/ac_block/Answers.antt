@@ -31,7 +31,7 @@ overflow_mul-m c = record { fits = omega (arith, c.before.before.before.ranges.m
 pub loop-m-init : goal.loop-m-init
 loop-m-init c =
     let s = c.before.before.before in
-    going s.args.z.now s.args.s.a s.args.out.now (s.args.s.run + 1) s.args.mask _ (sized s) s.requires.0 (omega (arith, s.requires.3)) s.requires.6
+    going s.args.z.now s.args.s.a s.args.out.now (s.args.s.run + 1) s.args.mask _ (sized (goal.at.loop-m-init c).Start) s.requires.0 (omega (arith, s.requires.3)) s.requires.6
 
 -- the turn
 turns : (c : In-loop-m) → Turn c.before.before.before.before.before.args.z.now c.before.loop-m.run c.before.loop-m.m c.before.loop-m.at (count_trailing_zeros 64 c.before.loop-m.m)
@@ -55,7 +55,7 @@ bounds-z-p c = omega (arith, (turns c).inside)
 -- the value at the place, as it was read
 value_is : (c : After-pair-arg-1) → let l = c.before.before in
     to_z w16 (of_z w16 (lane l.before.before.before.before.args.z.now (count_trailing_zeros 64 l.loop-m.m))) ≡ lane l.before.before.before.before.args.z.now (count_trailing_zeros 64 l.loop-m.m)
-value_is c = to_z-of_z (sfits_of c.pair-arg-1.given)
+value_is c = to_z-of_z {w = w16} (sfits_of c.pair-arg-1.given)
 
 -- what the pair asks
 record Asks (c : After-pair-arg-1) : Type 0 where
@@ -102,15 +102,15 @@ pub overflow_sub-m : goal.overflow_sub-m
 overflow_sub-m c = let i = c.before.before.before.before.before.before in positive i.before.loop-m.m i.loop-m-test.true
 
 pub overflow_add-at : goal.overflow_add-at
-overflow_add-at c = record { fits = omega (arith, (turns c.before.before.before.before.before.before).inside) }
+overflow_add-at c = record { fits = omega (arith, (turns (goal.at.overflow_add-at c).In-loop-m).inside) }
 
 pub loop-m-smaller : goal.loop-m-smaller
-loop-m-smaller c = let t = turns c.before.before.before.before.before.before in omega (arith, t.from, t.inside)
+loop-m-smaller c = let t = turns (goal.at.loop-m-smaller c).In-loop-m in omega (arith, t.from, t.inside)
 
 pub loop-m-preserved : goal.loop-m-preserved
 loop-m-preserved c =
     let k = c.before.before.before.before in
-    let a = asks k.before in
+    let a = asks (goal.at.loop-m-preserved c).After-pair-arg-1 in
     let l = k.before.before.before in
     let s = l.before.before.before.before in
     gone l.loop-m.invariant (turns k.before.before)

@@ -14,25 +14,25 @@ value : (s : Start) → ValueAt (get_or s.args.values.now s.args.place 0) (code_
 value s = value_at s.args.values.now s.args.place s.requires.3 s.requires.1
 
 pub overflow_cast-run-2 : goal.overflow_cast-run-2
-overflow_cast-run-2 c = record { fits = omega (arith, (run c.before).small) }
+overflow_cast-run-2 c = record { fits = omega (arith, (run (goal.at.overflow_cast-run-2 c).Start).small) }
 
 pub overflow_cast-value-2 : goal.overflow_cast-value-2
-overflow_cast-value-2 c = record { fits = omega (arith, (value c.before.before).small) }
+overflow_cast-value-2 c = record { fits = omega (arith, (value (goal.at.overflow_cast-value-2 c).Start).small) }
 
 pub overflow_cast-run-3 : goal.overflow_cast-run-3
-overflow_cast-run-3 c = record { fits = omega (arith, (run c.before.before).small) }
+overflow_cast-run-3 c = record { fits = omega (arith, (run (goal.at.overflow_cast-run-3 c).Start).small) }
 
 pub overflow_cast-value-3 : goal.overflow_cast-value-3
-overflow_cast-value-3 c = record { fits = omega (arith, (value c.before.before).small) }
+overflow_cast-value-3 c = record { fits = omega (arith, (value (goal.at.overflow_cast-value-3 c).Start).small) }
 
 pub join-requires : goal.join-requires
 join-requires c =
     let s = c.before.before in
-    let r = run s in
+    let r = run (goal.at.join-requires c).Start in
     let v = value s in
     rw (r.word, v.word, v.long) (omega (arith, v.few), above _ _ r.fits v.few, v.fits)
 
 pub returns : goal.returns
 returns c =
     let s = c.before.before.before in
-    both (get_or s.args.runs.now s.args.n 0) (get_or s.args.values.now s.args.place 0) s.args.n (code_at s.args.place) c.join.result (run s) (value s) c.join.ensures
+    both (get_or s.args.runs.now s.args.n 0) (get_or s.args.values.now s.args.place 0) s.args.n (code_at s.args.place) c.join.result (run (goal.at.returns c).Start) (value s) c.join.ensures

@@ -24,7 +24,7 @@ dc_is : (c : After-coded_dc-d) → let s = c.before.before.before.before.before.
     to_z w16 (of_z w16 c.coded_dc-d.result) ≡ coded_dc s.args.shift (lane s.args.z.now 0)
 dc_is c =
     let s = c.before.before.before.before.before.before in
-    to_z-of_z (sfits_of c.coded_dc-d.type_inv) ∙ c.coded_dc-d.ensures ∙ ap (coded_dc s.args.shift) (to_z-of_z (sfits_of c.before.coded_dc-arg-1.given))
+    to_z-of_z {w = w16} (sfits_of c.coded_dc-d.type_inv) ∙ c.coded_dc-d.ensures ∙ ap (coded_dc s.args.shift) (to_z-of_z {w = w16} (sfits_of c.before.coded_dc-arg-1.given))
 
 stepped : (c : After-diff16) → let s = c.before.before.before.before.before.before.before.before in
     to_z w32 (of_z w32 c.diff16.result) ≡ coded_dc s.args.shift (lane s.args.z.now 0) -ℤ s.args.s.pred

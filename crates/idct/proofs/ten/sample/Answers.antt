@@ -15,8 +15,8 @@ clamp : (c : After-max1-y) → back w16 c.max1-y.result ≡ pos (least c.before.
 clamp c =
     let m = c.before in
     let s = m.before in
-    to_z-of_z (sfits_of c.max1-y.type_inv) ∙ c.max1-y.ensures
-    ∙ ap (λ (z : ℤ). max_of z (pos 0)) (to_z-of_z (sfits_of m.min1.type_inv) ∙ m.min1.ensures ∙ ap (λ (z : ℤ). min_of z (pos 1023)) (to_z-of_z s.ranges.x))
+    to_z-of_z {w = w16} (sfits_of c.max1-y.type_inv) ∙ c.max1-y.ensures
+    ∙ ap (λ (z : ℤ). max_of z (pos 0)) (to_z-of_z {w = w16} (sfits_of m.min1.type_inv) ∙ m.min1.ensures ∙ ap (λ (z : ℤ). min_of z (pos 1023)) (to_z-of_z s.ranges.x))
     ∙ clamp_is s.args.x
 
 pub overflow_cast-result : goal.overflow_cast-result

@@ -17,7 +17,7 @@ pub returns-in-Refused : goal.returns-in-Refused
 returns-in-Refused c =
     let t = c.before.before.before in
     let l = t.before.before in
-    let a = l.before.before.args in
+    let a = l.before.args in
     let e : place.Refused c.before.x-1.given.0.0 ≡ t.one_stream.result = cc in
     sym
     (next_stop a.n a.limit a.f.now a.p l.loop-k.k l.loop-k.at (omega arith) l.loop-k.invariant.1.1
@@ -27,7 +27,7 @@ pub loop-k-preserved : goal.loop-k-preserved
 loop-k-preserved c =
     let t = c.before.before.before in
     let l = t.before.before in
-    let a = l.before.before.args in
+    let a = l.before.args in
     let e : place.At c.before.q-1.given.0.0 ≡ t.one_stream.result = cc in
     let g = sym (ap place_says e ∙ t.one_stream.ensures) in (
       omega arith,

@@ -12,7 +12,7 @@ use Rattle.quant.proofs.one.magnitude.Goals.{After-bits16}
 known : (c : After-bits16) → c.bits16.result ≡ nat_abs c.before.before.args.x
 known c =
     let s = c.before.before in
-    c.bits16.ensures ∙ ap (of_z w16) (to_z-of_z (sfits_of c.before.abs1.type_inv) ∙ (rw (to_z-of_z s.ranges.x) at c.before.abs1.ensures)) ∙ abs_bits s.args.x s.ranges.x
+    c.bits16.ensures ∙ ap (of_z w16) (to_z-of_z {w = w16} (sfits_of c.before.abs1.type_inv) ∙ (rw (to_z-of_z s.ranges.x) at c.before.abs1.ensures)) ∙ abs_bits s.args.x s.ranges.x
 
 pub overflow_cast-result : goal.overflow_cast-result
 overflow_cast-result c =

@@ -1,3 +1,4 @@
+use mir.Syntax.{w16}
 use mathlib.Core.Path.{◌≡◌, ap, ◌∙◌}
 use Prim.Native.Nat.{ℕ, ◌+◌}
 use native.Mathlib.Omega.{arith}
@@ -31,4 +32,4 @@ with_sign-requires c = rw (chain c) c.before.before.before.requires.1
 pub returns : goal.returns
 returns c =
     let s = c.before.before.before.before in
-    to_z-of_z (sfits_of c.with_sign.type_inv) ∙ (rw (to_z-of_z s.ranges.x) at c.with_sign.ensures) ∙ ap (with_sign s.args.x) (chain c.before)
+    to_z-of_z {w = w16} (sfits_of c.with_sign.type_inv) ∙ (rw (to_z-of_z s.ranges.x) at c.with_sign.ensures) ∙ ap (with_sign s.args.x) (chain c.before)
