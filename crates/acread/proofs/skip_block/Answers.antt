@@ -1,11 +1,11 @@
 -- `acread::skip_block`: the loop over a block's symbols.
-use mathlib.Core.Logic.{⊎_elim}
+
 use Prim.Native.Nat.{◌+◌, ◌-◌, ◌≤◌, ◌<◌}
 use native.Mathlib.Omega.{arith}
 use Rattle.acread.specs.Going.{Going}
 use Rattle.acread.proofs.Going.{going_start, going_same, going_turn, going_bad, going_over, span_some}
 use Rattle.acread.proofs.skip_block.Goals as goal
-use Rattle.acread.proofs.skip_block.Goals.{After-row_known-1, After-span-place}
+use Rattle.acread.proofs.skip_block.Goals.{else-loop-place-test, then-loop-place-test+then-place-ge64, After-row_known-1, After-span-place}
 
 pub loop-place-init : goal.loop-place-init
 loop-place-init c =
@@ -57,20 +57,22 @@ loop-place-preserved c = (c.before.before.before.before.before.before.before.bef
 
 -- the block is over, by a symbol or by a look
 ended : (c : After-row_known-1)
-    → let a = c.before.before.before.before.before.args in
-    Going a.s.now a.c0.pos a.pending c.before.loop-place-test.c c.before.loop-place-test.place × (64 ≤ c.before.loop-place-test.place)
+    → let a = c.args in
+    Going a.s.now a.c0.pos a.pending c.loop-place-test.c c.loop-place-test.place × (64 ≤ c.loop-place-test.place)
 ended c =
-    let a = c.before.before.before.before.before.args in
-    let i = c.before.before.loop-place.invariant.1 in
-    ⊎_elim (λ w. (going_same w.1 w.2 i, omega (arith, w.0.left, w.2)))
-    (λ w. (going_same w.4 w.5 (w.1.ensures.goes a.s.now a.c0.pos a.pending i), omega (arith, w.3.taken, w.5)))
-    c.before.loop-place-test.branch
+    let a = c.args in
+    let i = c.loop-place.invariant.1 in
+    elim c.loop-place-test.branch [
+      | else-loop-place-test w ↦ (going_same w.c-is w.place-is i, omega (arith, w.loop-place-test.false, w.place-is))
+      | then-loop-place-test+then-place-ge64 w ↦
+          (going_same w.c-is w.place-is (w.by_table-a.ensures.goes a.s.now a.c0.pos a.pending i), omega (arith, w.if-place-ge64.true, w.place-is))
+    ]
 
 pub overflow_sub-result : goal.overflow_sub-result
 overflow_sub-result c = (ended c).1
 
 pub returns : goal.returns
 returns c =
-    let a = c.before.before.before.before.before.args in
+    let a = c.args in
     let i = ended c in
-    going_over a.s.now a.c0.pos a.pending c.before.loop-place-test.c c.before.loop-place-test.place i.0 i.1
+    going_over a.s.now a.c0.pos a.pending c.loop-place-test.c c.loop-place-test.place i.0 i.1

@@ -1,11 +1,9 @@
 -- `acread::through::dc_good`: clean by the scan, or by the answer of the read-through.
-use mathlib.Core.Path.{◌≡◌, sym, ap, ◌∙◌}
+use mathlib.Core.Path.{sym, ◌∙◌}
 use Prim.Native.Nat.{◌*◌}
 use native.Mathlib.Omega.{arith}
 use Rattle.bits.specs.Bits.{bit_at}
 use Rattle.calls.specs.ReadPlane.{read_steps}
-use Rattle.acread.specs.declared.through.PlaneEnd.TheVariants as plane
-use Rattle.acread.specs.through.Through.{end_says}
 use Rattle.acread.proofs.through.Codes.{good_end, bad_end}
 use Rattle.acread.proofs.through.CodesEnd.{clean_steps}
 use Rattle.acread.proofs.through.dc_good.Goals as goal
@@ -18,14 +16,10 @@ returns-then-no_six_zeros c =
 
 pub returns-in-At : goal.returns-in-At
 returns-in-At c =
-    let t = c.through_dc in
-    let a = c.before.before.before.before.before.before.before.args in
-    let d : t.result ≡ plane.At c.before.e-1.given.0.0 = cc in
-    sym (good_end (read_steps (2 * a.columns) (bit_at a.dc.now) (8 * a.at)) (sym (ap end_says d) ∙ t.ensures))
+    let a = c.args in
+    sym (good_end (read_steps (2 * a.columns) (bit_at a.dc.now) (8 * a.at)) c.in-At.ensures)
 
 pub returns-in-Refused : goal.returns-in-Refused
 returns-in-Refused c =
-    let t = c.through_dc in
-    let a = c.before.before.before.before.before.before.before.args in
-    let d : t.result ≡ plane.Refused c.before.n-1.given.0.0 = cc in
-    sym (bad_end (read_steps (2 * a.columns) (bit_at a.dc.now) (8 * a.at)) (sym (ap end_says d) ∙ t.ensures))
+    let a = c.args in
+    sym (bad_end (read_steps (2 * a.columns) (bit_at a.dc.now) (8 * a.at)) c.in-Refused.ensures)

@@ -5,7 +5,6 @@ use Rattle.bitreader.specs.declared.AcCursor.{AcCursor}
 use Rattle.calls.specs.ReadPlane.{read_blocks}
 use Prim.Native.Nat.{suc, ◌+◌, ◌-◌, ◌*◌}
 use mathlib.Core.Path.{◌≡◌, refl, ap, ◌∙◌}
-use mathlib.Core.Logic.{⊎_elim}
 use native.Mathlib.Omega.{arith}
 use borrow.Author.Rules.{rules}
 use lib.ListN.{length}
@@ -14,6 +13,7 @@ use Rattle.acread.proofs.through.Blocks.{end_bad, end_at}
 use Rattle.acread.proofs.through.Going.{going_start, going_left, going_next, going_bad, going_over}
 use Rattle.acread.specs.declared.BlockEnd.TheVariants as block
 use Rattle.acread.proofs.through.through_ac.Goals as goal
+use Rattle.acread.proofs.through.through_ac.Goals.{else-rows-test, then-rows-test+then-loop-k-test+in-Bad}
 
 pub looks-tab-requires : goal.looks-tab-requires
 looks-tab-requires c = tt
@@ -51,17 +51,14 @@ loop-k-smaller c = omega arith
 
 pub loop-k-preserved : goal.loop-k-preserved
 loop-k-preserved c =
-    let a = c.before.before.before.before.before.before.before.before.before.before.before.before.args in
-    let j = c.before.before.before.before.before.before.before.before.rows.j in
-    let l = c.before.before.before.before.before.before.loop-k in
-    let b = c.before.before.before.skip_block in
-    let d = c.before.d-1.given in
-    let m = a.columns - (l.k + 1) + (2 - (j + 1)) * a.columns in
-    let e : b.result ≡ block.At d.0.0 d.0.1.0 = cc in (
+    let a = c.args in
+    let j = c.rows.j in
+    let l = c.loop-k in
+    let m = a.columns - (l.k + 1) + (2 - (j + 1)) * a.columns in (
       omega arith,
       l.invariant.1,
-      going_next a.ac.now (8 * a.at) (2 * a.columns) l.c l.pending m (going_left (suc m) (row_next j l.k a.columns (omega arith)) l.invariant.2) b.result
-          b.ensures d.0.0 d.0.1.0 e,
+      going_next a.ac.now (8 * a.at) (2 * a.columns) l.c l.pending m (going_left (suc m) (row_next j l.k a.columns (omega arith)) l.invariant.2) (block.At c.in-At.d c.in-At.n)
+          c.in-At.ensures c.in-At.d c.in-At.n refl,
     )
 
 pub overflow_step-j : goal.overflow_step-j
@@ -72,36 +69,40 @@ rows-smaller c = omega arith
 
 pub rows-preserved : goal.rows-preserved
 rows-preserved c =
-    let a = c.before.before.before.before.before.before.before.args in
-    let i = c.before.loop-k.invariant in
-    (omega arith, i.1, going_left _ (row_last c.before.before.before.rows.j c.before.loop-k.k a.columns (omega arith)) i.2)
+    let a = c.args in
+    let i = c.loop-k.invariant in
+    (omega arith, i.1, going_left _ (row_last c.rows.j c.loop-k.k a.columns (omega arith)) i.2)
 
 pub end_byte-requires : goal.end_byte-requires
 end_byte-requires c =
-    ⊎_elim (λ w. omega (arith, ap (λ (x : AcCursor). x.pos) w.1, c.before.before.rows.invariant.2.near)) (λ w. absurd (omega arith))
-    c.before.rows-test.branch
+    elim c.rows-test.branch [
+      | else-rows-test w ↦ omega (arith, ap (λ (x : AcCursor). x.pos) w.c-is, c.rows.invariant.2.near)
+      | then-rows-test+then-loop-k-test+in-Bad w ↦ absurd (omega arith)
+    ]
 
 pub returns-then-number-ne0 : goal.returns-then-number-ne0
 returns-then-number-ne0 c =
-    let a = c.before.before.before.before.before.before.args in
-    let j = c.before.before.rows.j in
-    ⊎_elim (λ w. absurd (omega arith))
-    (λ w.
-    let l = w.1 in
-    let m = a.columns - (l.k + 1) + (2 - (j + 1)) * a.columns in
-    let f : w.4.result ≡ block.Bad = cc in
-    ap refused w.9
-    ∙ end_bad (read_blocks (2 * a.columns) (bit_at a.ac.now) (8 * a.at) 0)
-    (going_bad a.ac.now (8 * a.at) (2 * a.columns) l.c l.pending m (going_left (suc m) (row_next j l.k a.columns (omega arith)) l.inv.2) w.4.result w.4.ensures f))
-    c.before.rows-test.branch
+    let a = c.args in
+    let j = c.rows.j in
+    elim c.rows-test.branch [
+      | else-rows-test w ↦ absurd (omega arith)
+      | then-rows-test+then-loop-k-test+in-Bad w ↦
+          let l = w.loop-k in
+          let m = a.columns - (l.k + 1) + (2 - (j + 1)) * a.columns in
+          let f : w.skip_block.result ≡ block.Bad = cc in
+          ap refused w.number-is
+          ∙ end_bad (read_blocks (2 * a.columns) (bit_at a.ac.now) (8 * a.at) 0)
+          (going_bad a.ac.now (8 * a.at) (2 * a.columns) l.c l.pending m (going_left (suc m) (row_next j l.k a.columns (omega arith)) l.invariant.2) w.skip_block.result w.skip_block.ensures f)
+    ]
 
 pub returns-else-number-ne0 : goal.returns-else-number-ne0
 returns-else-number-ne0 c =
-    let a = c.before.before.before.before.before.before.before.args in
-    let r = c.before.before.before.rows in
-    ⊎_elim
-    (λ w.
-    ap accepted (c.end_byte.ensures ∙ ap (λ (x : AcCursor). bytes_for x.pos) w.1)
-    ∙ end_at (read_blocks (2 * a.columns) (bit_at a.ac.now) (8 * a.at) 0) r.c.pos r.pending
-    (going_over a.ac.now (8 * a.at) (2 * a.columns) r.c r.pending ((2 - r.j) * a.columns) (rows_over r.j a.columns (omega arith)) r.invariant.2))
-    (λ w. absurd (omega arith)) c.before.before.rows-test.branch
+    let a = c.args in
+    let r = c.rows in
+    elim c.rows-test.branch [
+      | else-rows-test w ↦
+          ap accepted (c.end_byte.ensures ∙ ap (λ (x : AcCursor). bytes_for x.pos) w.c-is)
+          ∙ end_at (read_blocks (2 * a.columns) (bit_at a.ac.now) (8 * a.at) 0) r.c.pos r.pending
+          (going_over a.ac.now (8 * a.at) (2 * a.columns) r.c r.pending ((2 - r.j) * a.columns) (rows_over r.j a.columns (omega arith)) r.invariant.2)
+      | then-rows-test+then-loop-k-test+in-Bad w ↦ absurd (omega arith)
+    ]

@@ -22,7 +22,7 @@ pub slice_count-slices-requires : goal.slice_count-slices-requires
 slice_count-slices-requires e =
     let x = e.before in
     let a = x.before.before.before.args in
-    let g = puts a.width a.height (builder_says a.b) (is_ac a.kind) a.slice (length a.s.now) (length a.out.now) (omega (arith, x.stream-number.ensures, e.if1.false)) in
+    let g = puts a.width a.height (builder_says a.b) (is_ac a.kind) a.slice (length a.s.now) (length a.out.now) (omega (arith, x.stream_number-x.ensures, e.if1.false)) in
     (sized a.width a.height g.size).high
 
 pub put_length-requires : goal.put_length-requires

@@ -113,8 +113,8 @@ loop-m-preserved c =
     let a = asks (goal.at.loop-m-preserved c).After-pair-arg-1 in
     let l = k.before.before.before in
     let s = l.before.before.before.before in
-    gone l.loop-m.invariant (turns k.before.before)
-    (pair_put l.loop-m.a (l.loop-m.run + (count_trailing_zeros 64 l.loop-m.m - l.loop-m.at)) (code_of (lane s.args.z.now (count_trailing_zeros 64 l.loop-m.m))) (made k) a.run_few a.some a.small c.before.before.put-a.ensures)
+    gone l.loop-m.invariant (turns (goal.at.loop-m-preserved c).In-loop-m)
+    (pair_put l.loop-m.a (l.loop-m.run + (count_trailing_zeros 64 l.loop-m.m - l.loop-m.at)) (code_of (lane s.args.z.now (count_trailing_zeros 64 l.loop-m.m))) (made (goal.at.loop-m-preserved c).After-pair-e) a.run_few a.some a.small c.before.before.put-a.ensures)
 
 pub overflow_sub-result : goal.overflow_sub-result
 overflow_sub-result c = c.before.loop-m.invariant.at_le

@@ -29,10 +29,10 @@ pub join-requires : goal.join-requires
 join-requires c =
     let s = c.before.before in
     let r = run (goal.at.join-requires c).Start in
-    let v = value s in
+    let v = value (goal.at.join-requires c).Start in
     rw (r.word, v.word, v.long) (omega (arith, v.few), above _ _ r.fits v.few, v.fits)
 
 pub returns : goal.returns
 returns c =
     let s = c.before.before.before in
-    both (get_or s.args.runs.now s.args.n 0) (get_or s.args.values.now s.args.place 0) s.args.n (code_at s.args.place) c.join.result (run (goal.at.returns c).Start) (value s) c.join.ensures
+    both (get_or s.args.runs.now s.args.n 0) (get_or s.args.values.now s.args.place 0) s.args.n (code_at s.args.place) c.join.result (run (goal.at.returns c).Start) (value (goal.at.returns c).Start) c.join.ensures
