@@ -6,7 +6,7 @@ use Rattle.acplaces.proofs.by_table.Given as goal
 
 abbrev pub invariant-loop-c : goal.invariant-loop-c
 invariant-loop-c l =
-    Onward (record { l.c = l.initial.c; l.place = l.initial.place }) l.initial.nat (record { l.c = l.c; l.place = l.place }) l.nat × (l.c.pos + l.c.count ≡ l.initial.c.pos + l.initial.c.count) × (l.place < 128)
+    Onward (record { c = l.initial.c; place = l.initial.place }) l.initial.nat (record { c = l.c; place = l.place }) l.nat × (l.c.pos + l.c.count ≡ l.initial.c.pos + l.initial.c.count) × (l.place < 128)
 
 abbrev pub decreases-loop-c : goal.decreases-loop-c
 decreases-loop-c l = l.c.count

@@ -5,7 +5,7 @@ use Rattle.acplaces.proofs.by_zeros.Given as goal
 
 abbrev pub invariant-loop-m : goal.invariant-loop-m
 invariant-loop-m l =
-    Onward (record { l.c = l.initial.c; l.place = l.initial.place }) l.initial.nat (record { l.c = l.c; l.place = l.place }) l.nat
+    Onward (record { c = l.initial.c; place = l.initial.place }) l.initial.nat (record { c = l.c; place = l.place }) l.nat
     × (l.m ≤ 3) × (l.c.count ≤ 64) × (l.c.pos ≤ l.initial.c.pos + 64 * l.m) × (l.place < 2 ^ 57)
 
 abbrev pub decreases-loop-m : goal.decreases-loop-m

@@ -10,22 +10,22 @@ use Rattle.judge.proofs.plane.Goals as goal
 
 pub dc_good-requires : goal.dc_good-requires
 dc_good-requires c =
-    let s = c.before.before in
+    let s = c in
     (omega (arith, s.requires.0), s.requires.2)
 
 pub ac_good-requires : goal.ac_good-requires
 ac_good-requires c =
-    let s = c.before.before.before.before in
+    let s = c in
     (omega (arith, s.requires.1), s.requires.2)
 
 pub returns-then-dc_good : goal.returns-then-dc_good
 returns-then-dc_good c = λ shift.
-    let a = c.before.before.before.before.before.args in
-    both_streams_lem (sym c.before.before.dc_good.ensures ∙ c.before.if-dc_good.true) c.ac_good.ensures
+    let a = c.args in
+    both_streams_lem (sym c.dc_good.ensures ∙ c.if-dc_good.true) c.ac_good.ensures
     ∙ sym (plane_good shift (2 * a.columns) a.dc.now a.ac.now a.at.dc a.at.ac)
 
 pub returns : goal.returns
 returns c = λ shift.
-    let a = c.before.before.before.before.args in
-    dc_bad (good_ends (block_ends (read_blocks (2 * a.columns) (bit_at a.ac.now) (8 * a.at.ac) 0))) (sym c.before.dc_good.ensures ∙ c.if-dc_good.false)
+    let a = c.args in
+    dc_bad (good_ends (block_ends (read_blocks (2 * a.columns) (bit_at a.ac.now) (8 * a.at.ac) 0))) (sym c.dc_good.ensures ∙ c.if-dc_good.false)
     ∙ sym (plane_good shift (2 * a.columns) a.dc.now a.ac.now a.at.dc a.at.ac)

@@ -16,60 +16,57 @@ no_six_zeros-requires c = tt
 
 pub returns-then-no_six_zeros : goal.returns-then-no_six_zeros
 returns-then-no_six_zeros c =
-    let n = c.before in
-    let a = n.before.before.args in
+    let n = c in
+    let a = n.args in
     sym
-    (clean_good (stream_plane a.dc a.bytes.now) a.from (clean a.dc a.bytes.now (λ j. of_byte (n.before.shared_slice_known-1.given j)) a.from (sym n.no_six_zeros.ensures ∙ c.if-no_six_zeros.true))
+    (clean_good (stream_plane a.dc a.bytes.now) a.from (clean a.dc a.bytes.now (λ j. of_byte (n.shared_slice_known-1.given j)) a.from (sym n.no_six_zeros.ensures ∙ c.if-no_six_zeros.true))
     (first_strides a.f) a.from (omega arith))
 
 pub loop-k-init : goal.loop-k-init
 loop-k-init c =
-    let a = c.before.before.before.before.args in
+    let a = c.args in
     (omega arith, turns_start (stream_plane a.dc a.bytes.now) (first_strides a.f) a.from)
 
-abbrev start : In-loop-k → Start
-start c = c.before.before.before.before.before.before
-
 pub offset_bounds-strides-k : goal.offset_bounds-strides-k
-offset_bounds-strides-k c = omega (arith, below_four c.loop-k-test.true (start c).requires.1.0)
+offset_bounds-strides-k c = omega (arith, below_four c.loop-k-test.true c.requires.1.0)
 
 pub bounds-strides-k : goal.bounds-strides-k
-bounds-strides-k c = omega (arith, below_four c.loop-k-test.true (start c).requires.1.0)
+bounds-strides-k c = omega (arith, below_four c.loop-k-test.true c.requires.1.0)
 
 pub through-requires : goal.through-requires
 through-requires c =
-    let l = c.before.loop-k in
-    let s = start c in
+    let l = c.loop-k in
+    let s = c in
     (still_near c.loop-k-test.true s.pre.1.0 s.pre.0 l.invariant.1.near, s.pre.1.1 l.k c.loop-k-test.true)
 
 pub returns-in-Refused : goal.returns-in-Refused
 returns-in-Refused c =
-    let t = c.before.before.before.through in
-    let w = c.before.before.before.before in
-    let l = w.before.loop-k in
-    let s = start w in
+    let t = c.through in
+    let w = c in
+    let l = w.loop-k in
+    let s = w in
     let a = s.args in
-    let f : t.result ≡ plane.Refused c.before.n-1.given.0.0 = c.before.n-1.given.1 in
+    let f : t.result ≡ plane.Refused c.n-1.given.0.0 = c.n-1.given.1 in
     sym
     (turns_bad (stream_plane a.dc a.bytes.now) (first_strides a.f) a.from l.k l.at l.invariant.1 (stride_by a.f l.k)
     (omega (arith, first_length a.f s.pre.1.0, w.loop-k-test.true)) (first_at a.f s.pre.1.0 l.k w.loop-k-test.true) (sym (ap end_says f) ∙ t.ensures))
 
 pub overflow_add-k : goal.overflow_add-k
 overflow_add-k c =
-    let w = c.before.before.before.before in
-    turn_fits w.loop-k-test.true (start w).requires.1.0
+    let w = c in
+    turn_fits w.loop-k-test.true w.requires.1.0
 
 pub loop-k-smaller : goal.loop-k-smaller
-loop-k-smaller c = fewer_left c.before.before.before.before.loop-k-test.true
+loop-k-smaller c = fewer_left c.loop-k-test.true
 
 pub loop-k-preserved : goal.loop-k-preserved
 loop-k-preserved c =
-    let t = c.before.before.before.through in
-    let w = c.before.before.before.before in
-    let l = w.before.loop-k in
-    let s = start w in
+    let t = c.through in
+    let w = c in
+    let l = w.loop-k in
+    let s = w in
     let a = s.args in
-    let f : t.result ≡ plane.At c.before.e-1.given.0.0 = c.before.e-1.given.1 in (
+    let f : t.result ≡ plane.At c.e-1.given.0.0 = c.e-1.given.1 in (
       one_more w.loop-k-test.true,
       turns_next (stream_plane a.dc a.bytes.now) (first_strides a.f) a.from l.k l.at l.invariant.1 (stride_by a.f l.k)
           (omega (arith, first_length a.f s.pre.1.0, w.loop-k-test.true)) (first_at a.f s.pre.1.0 l.k w.loop-k-test.true)
@@ -78,8 +75,8 @@ loop-k-preserved c =
 
 pub returns : goal.returns
 returns c =
-    let l = c.before.loop-k in
-    let s = c.before.before.before.before.before.before in
+    let l = c.loop-k in
+    let s = c in
     let a = s.args in
     sym
     (turns_over (stream_plane a.dc a.bytes.now) (first_strides a.f) a.from l.k l.at l.invariant.1

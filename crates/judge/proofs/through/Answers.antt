@@ -9,7 +9,7 @@ pub through_ac-requires : goal.through_ac-requires
 through_ac-requires c = (omega arith, omega arith)
 
 pub returns-then-dc : goal.returns-then-dc
-returns-then-dc c = rw c.before.if-dc.true c.through_dc.ensures
+returns-then-dc c = rw c.if-dc.true c.through_dc.ensures
 
 pub returns-else-dc : goal.returns-else-dc
-returns-else-dc c = rw c.before.if-dc.false c.through_ac.ensures
+returns-else-dc c = rw c.if-dc.false c.through_ac.ensures

@@ -8,47 +8,44 @@ use Rattle.preview.proofs.Asked.{Yes, yes, answer_no, answer_bad, answer_end}
 use Rattle.preview.proofs.preview.Goals as goal
 use Rattle.preview.proofs.preview.Goals.{Else-x-gt0, Start}
 
-abbrev start : Else-x-gt0 → Start
-start c = c.before.before.before.before.before
-
 -- no question was answered "no"
 none : (c : Else-x-gt0)
-    → let a = (start c).args in first_no (preview_questions a.shift a.h.place a.h.stride a.upper.now a.lower.now (length a.dc.now) a.at) ≡ 0
+    → let a = c.args in first_no (preview_questions a.shift a.h.place a.h.stride a.upper.now a.lower.now (length a.dc.now) a.at) ≡ 0
 none c =
-    let a = (start c).args in
-    let z : c.before.preview_number-x.result ≡ 0 = omega (arith, c.if-x-gt0.false) in
-    sym (c.before.preview_number-x.ensures a.upper.now a.lower.now refl refl) ∙ z
+    let a = c.args in
+    let z : c.preview_number-x.result ≡ 0 = omega (arith, c.if-x-gt0.false) in
+    sym (c.preview_number-x.ensures a.upper.now a.lower.now refl refl) ∙ z
 
-legal : (c : Else-x-gt0) → let a = (start c).args in Yes a.shift a.h.stride a.upper.now a.lower.now a.at
+legal : (c : Else-x-gt0) → let a = c.args in Yes a.shift a.h.stride a.upper.now a.lower.now a.at
 legal c =
-    let a = (start c).args in
+    let a = c.args in
     yes a.shift a.h.place a.h.stride a.upper.now a.lower.now (length a.dc.now) a.at (none c)
 
 pub returns-then-x-gt0 : goal.returns-then-x-gt0
 returns-then-x-gt0 c =
-    let a = c.before.before.before.before.before.args in
-    answer_no a.shift a.h.place a.h.stride a.upper.now a.lower.now a.dc.now a.at (c.before.preview_number-x.ensures a.upper.now a.lower.now refl refl) c.if-x-gt0.true
+    let a = c.args in
+    answer_no a.shift a.h.place a.h.stride a.upper.now a.lower.now a.dc.now a.at (c.preview_number-x.ensures a.upper.now a.lower.now refl refl) c.if-x-gt0.true
 
 pub dc_good-requires : goal.dc_good-requires
 dc_good-requires c =
-    let k = legal c.before in
+    let k = legal c in
     (omega (arith, k.start), omega (arith, k.wide))
 
 pub store_preview-end-requires : goal.store_preview-end-requires
 store_preview-end-requires c =
-    let t = c.before.before in
-    let k = legal t.before.before.before in
-    (omega (arith, k.few), omega (arith, k.wide), k.above, k.below, k.start, sym t.before.dc_good.ensures ∙ t.if-dc_good.true)
+    let t = c in
+    let k = legal t in
+    (omega (arith, k.few), omega (arith, k.wide), k.above, k.below, k.start, sym t.dc_good.ensures ∙ t.if-dc_good.true)
 
 pub returns-then-dc_good : goal.returns-then-dc_good
 returns-then-dc_good c =
-    let p = c.before.before.before.before in
-    let n = p.before.before.before.before.before.before in
-    let a = (start n).args in
+    let p = c in
+    let n = p in
+    let a = n.args in
     answer_end a.shift a.h.place a.h.stride a.upper.now a.lower.now a.dc.now a.at (none n) p.store_preview-end.ensures
 
 pub returns : goal.returns
 returns c =
-    let n = c.before.before.before in
-    let a = (start n).args in
-    answer_bad a.shift a.h.place a.h.stride a.upper.now a.lower.now a.dc.now a.at (none n) (sym c.before.dc_good.ensures ∙ c.if-dc_good.false)
+    let n = c in
+    let a = n.args in
+    answer_bad a.shift a.h.place a.h.stride a.upper.now a.lower.now a.dc.now a.at (none n) (sym c.dc_good.ensures ∙ c.if-dc_good.false)

@@ -14,18 +14,18 @@ use Rattle.preview.proofs.preview_number.Goals as goal
 pub returns : goal.returns
 unfolding preview_questions
 returns c =
-    let h = c.before in
-    let q3 = h.before in
-    let p = q3.before in
-    let q4 = p.before in
-    let w = q4.before in
-    let q5 = w.before in
-    let q7 = q5.before in
-    let b = q7.before in
-    let l = b.before in
-    let s = l.before in
-    let r = s.before in
-    let a = r.before.before.args in
+    let h = c in
+    let q3 = h in
+    let p = q3 in
+    let q4 = p in
+    let w = q4 in
+    let q5 = w in
+    let q7 = q5 in
+    let b = q7 in
+    let l = b in
+    let s = l in
+    let r = s in
+    let a = r.args in
     λ upper lower e f.
     put (shift_ok a.shift) no_shift _ (c.or_else.ensures ∙ ap (λ (x : Bool). or_else x no_shift q3.or_else-from_3.result) h.shift_ok.ensures)
     (put (place_ok a.h.place) no_plane _ (q3.or_else-from_3.ensures ∙ ap (λ (x : Bool). or_else x no_plane q4.or_else-from_4.result) p.Place-ok.ensures)

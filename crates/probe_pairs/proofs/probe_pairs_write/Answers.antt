@@ -10,11 +10,8 @@ use Rattle.probe_pairs.proofs.Writer.{room_of_lem, grown_of, both_long, pair_fit
 use Rattle.probe_pairs.proofs.probe_pairs_write.Goals as goal
 use Rattle.probe_pairs.proofs.probe_pairs_write.Goals.{At-loop-i, Else-not-taken, Start}
 
-abbrev start : At-loop-i → Start
-start l = l.before.before.before.before.before.before.before
-
 -- what was asked once
-roomy : (l : At-loop-i) → let a = (start l).args in (a.at ≤ length a.out.now) × (length a.runs.now ≤ (length a.out.now - a.at) / 8)
+roomy : (l : At-loop-i) → let a = l.args in (a.at ≤ length a.out.now) × (length a.runs.now ≤ (length a.out.now - a.at) / 8)
 roomy l = (search rules, search rules)
 
 pub loop-i-init : goal.loop-i-init
@@ -25,31 +22,31 @@ not_false true e = refl
 not_false false e = sym e
 
 -- what `taken` said of a pair
-pair_of : (e : Else-not-taken) → let a = (start e.before.before.before.before.before).args in let i = e.before.before.before.before.before.loop-i.i in
+pair_of : (e : Else-not-taken) → let a = e.args in let i = e.loop-i.i in
     (get_or a.runs.now i 0 < 2 ^ 17) × (0 < get_or a.codes.now i 0) × (get_or a.codes.now i 0 < 2 ^ 15)
-pair_of e = e.before.taken.ensures (not_false e.before.taken.result e.if-not-taken.false)
+pair_of e = e.taken.ensures e.if-not-taken.false
 
 pub put_run_value-a-requires : goal.put_run_value-a-requires
 put_run_value-a-requires c =
-    let e = c.before in
-    let l = e.before.before.before.before.before in
-    let s = start l in
+    let e = c in
+    let l = e in
+    let s = l in
     let k = pair_of e in
-    let f : Fits l.loop-i.a s.args.out.now = pair_fits s.args.at (length s.args.runs.now) l.loop-i.i _ (length s.args.out.now) (roomy l).0 (roomy l).1 e.before.before.before.before.loop-i-test.true l.loop-i.invariant.3 in
+    let f : Fits l.loop-i.a s.args.out.now = pair_fits s.args.at (length s.args.runs.now) l.loop-i.i _ (length s.args.out.now) (roomy l).0 (roomy l).1 e.loop-i-test.true l.loop-i.invariant.3 in
     (k.0, k.1, k.2, room_of_lem l.loop-i.a _ l.loop-i.out (l.loop-i.invariant.2, rw l.loop-i.invariant.1 f) (both_long _ _ k.0 k.1 k.2))
 
 pub loop-i-preserved : goal.loop-i-preserved
 loop-i-preserved c =
-    let w = c.before.before in
-    let e = w.before.before in
-    let l = e.before.before.before.before.before in
-    let s = start l in
+    let w = c in
+    let e = w in
+    let l = e in
+    let s = l in
     let k = pair_of e in
     let g : Grown l.loop-i.a w.put_run_value-a.result = grown_of l.loop-i.a w.put_run_value-a.result _ (both_long _ _ k.0 k.1 k.2) w.put_run_value-a.ensures in
-    (omega (arith, e.before.before.before.before.loop-i-test.true), search rules, (w.put_run_value-a.ensures.few, w.put_run_value-a.ensures.low), omega (arith, g, l.loop-i.invariant.3))
+    (omega (arith, e.loop-i-test.true), search rules, (w.put_run_value-a.ensures.few, w.put_run_value-a.ensures.low), omega (arith, g, l.loop-i.invariant.3))
 
 pub align-r-requires : goal.align-r-requires
 align-r-requires c =
-    let l = c.before.before in
-    let s = start l in
+    let l = c in
+    let s = l in
     end_fits s.args.at (length s.args.runs.now) l.loop-i.i (length s.args.out.now) l.loop-i.a l.loop-i.out (roomy l).0 (roomy l).1 l.loop-i.invariant.0 l.loop-i.invariant.3 l.loop-i.invariant.2 (sym l.loop-i.invariant.1)

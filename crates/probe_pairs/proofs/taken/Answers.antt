@@ -16,4 +16,4 @@ pub returns-then-c-gt32767 : goal.returns-then-c-gt32767
 returns-then-c-gt32767 c = never
 
 pub returns : goal.returns
-returns c = λ e. (ltb-true c.before.before.args.n 131072 e, omega arith, omega arith)
+returns c = λ e. (ltb-true c.args.n 131072 e, omega arith, omega arith)

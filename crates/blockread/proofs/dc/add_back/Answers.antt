@@ -6,10 +6,10 @@ use Rattle.blockread.proofs.dc.add_back.Goals as goal
 
 pub returns : goal.returns
 returns c =
-    let w = c.before in
-    let p = w.before in
-    let d = p.before in
-    let s = d.before in
+    let w = c in
+    let p = w in
+    let d = p in
+    let s = d in
     to_z-of_z (sfits_of c.signed16.type_inv) ∙ c.signed16.ensures
     ∙ ap (to_z w16) (w.wrapping_add_u16.ensures
     ∙ ap₂ (λ (x y : ℕ). (x + y) % 65536) (d.word.ensures ∙ ap (of_z w16) (to_z-of_z s.ranges.step)) (p.word-2.ensures ∙ ap (of_z w16) (to_z-of_z s.ranges.prior)))

@@ -7,10 +7,10 @@ use Rattle.blockread.proofs.dc.preview_byte.Goals as goal
 
 pub returns : goal.returns
 returns c =
-    let v = c.before in
-    let h = v.before in
-    let d = h.before in
-    let s = d.before in
+    let v = c in
+    let h = v in
+    let d = h in
+    let s = d in
     let a = s.args in
     let e1 = d.add1.ensures ∙ ap (λ (x : ℤ). add_of x (pos 4)) (to_z-of_z s.ranges.d) in
     let e2 = h.sra16.ensures ∙ ap (λ (x : ℤ). sra_of x 3) (to_z-of_z (sfits_of d.add1.type_inv) ∙ e1) in

@@ -14,14 +14,14 @@ use Rattle.blockread.proofs.ten.next_block.Goals.{Joined-s-lt64}
 
 pub read_block-g-requires : goal.read_block-g-requires
 read_block-g-requires c =
-    let s = c.before.before.before.before.before in
+    let s = c in
     let a = s.args in
     (omega (arith, s.requires.2), s.requires.0.few, s.requires.4, s.requires.5, refl, first_places a.shift 0 a.dc.now a.ac.now a.s s.requires.6)
 
 -- read, or all zeros
-placed : (j : Joined-s-lt64) → let a = j.before.before.before.before.args in Placed a.ac.now a.s.ac a.s.pending j.if-s-lt64.g j.if-s-lt64.nat
+placed : (j : Joined-s-lt64) → let a = j.args in Placed a.ac.now a.s.ac a.s.pending j.if-s-lt64.g j.if-s-lt64.nat
 placed j =
-    let s = j.before.before.before.before in
+    let s = j in
     let a = s.args in
     ⊎_elim
     (λ w. rw (w.3, w.4) w.2.ensures)
@@ -30,17 +30,17 @@ placed j =
 
 pub overflow_sub-result : goal.overflow_sub-result
 overflow_sub-result c =
-    let j = c.before.before.before.before.before.before in
-    let a = j.before.before.before.before.args in
+    let j = c in
+    let a = j.args in
     places_up a.ac.now a.s.ac a.s.pending (placed j).answer
 
 pub returns : goal.returns
 returns c =
-    let u = c.before.before in
-    let v = u.before.before in
-    let n = v.before in
-    let j = n.before.before in
-    let s = j.before.before.before.before in
+    let u = c in
+    let v = u in
+    let n = v in
+    let j = n in
+    let s = j in
     let a = s.args in
     let h = n.next_dc-h.result in
     block_next a.shift a.dc.now a.ac.now a.s j.if-s-lt64.g j.if-s-lt64.nat h (placed j) n.next_dc-h.ensures

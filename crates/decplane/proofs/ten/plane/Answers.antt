@@ -12,31 +12,21 @@ use Rattle.decplane.proofs.Loops.{Behind, begun, as_long, asks, inside, corner_s
 use Rattle.decplane.proofs.ten.plane.Goals as goal
 use Rattle.decplane.proofs.ten.plane.Goals.{After-begin-stand, After-corner-c, After-next-1, After-paint, At-loop-j, In-loop-k, Start}
 
-abbrev start : After-begin-stand → Start
-start c = c.before.before.before.before.before.before.before.before
-
--- from a turn's end to its painting, and to its start
-abbrev painting : After-next-1 → After-paint
-painting c = c.before.before.before
-
-abbrev turn : After-paint → In-loop-k
-turn w = w.before.before.before.before.before.before.before.before
-
--- the blocks so far in a turn of the outer loop
-behind : (l : At-loop-j) → let a = (start l.before).args in
+-- the blocks so far in a of the outer loop
+behind : (l : At-loop-j) → let a = l.args in
     Behind (settings_by ten a.s) (plane_by a.h a.rows.now) (buffers a.dc.now a.ac.now) (positions_by a.at) l.loop-j.j 0 l.loop-j.stand l.loop-j.rows
-behind l = let s = start l.before in l.loop-j.invariant.1 (positions_by s.args.at) s.pre (begun l.before.begin-stand.result l.before.begin-stand.ensures)
+behind l = let s = l in l.loop-j.invariant.1 (positions_by s.args.at) s.pre (begun l.begin-stand.result l.begin-stand.ensures)
 
--- the blocks so far in a turn of the inner loop
-sofar : (c : In-loop-k) → let l2 = c.before in let l = l2.before.before in let a = (start l.before).args in
+-- the blocks so far in a of the inner loop
+sofar : (c : In-loop-k) → let l2 = c in let l = l2 in let a = l.args in
     Behind (settings_by ten a.s) (plane_by a.h a.rows.now) (buffers a.dc.now a.ac.now) (positions_by a.at) l.loop-j.j l2.loop-k.k l2.loop-k.stand l2.loop-k.rows
-sofar c = let l2 = c.before in let l = l2.before.before in let s = start l.before in l2.loop-k.invariant.1 (positions_by s.args.at) s.args.rows.now s.pre (behind l)
+sofar c = let l2 = c in let l = l2 in let s = l in l2.loop-k.invariant.1 (positions_by s.args.at) s.args.rows.now s.pre (behind l)
 
 pub decode_numbers-q-requires : goal.decode_numbers-q-requires
-decode_numbers-q-requires c = let s = c.before.before.before.before in omega (arith, s.requires.settings.preset_le)
+decode_numbers-q-requires c = let s = c in omega (arith, s.requires.settings.preset_le)
 
 pub begin-stand-requires : goal.begin-stand-requires
-begin-stand-requires c = let s = c.before.before.before.before.before.before.before in (omega (arith, s.requires.dc_start, s.requires.ac_start), omega (arith, s.requires.dc_start, s.requires.ac_start))
+begin-stand-requires c = let s = c in (omega (arith, s.requires.dc_start, s.requires.ac_start), omega (arith, s.requires.dc_start, s.requires.ac_start))
 
 pub loop-j-init : goal.loop-j-init
 loop-j-init c = (omega arith, λ at o b. b)
@@ -46,100 +36,100 @@ loop-k-init c = (omega arith, λ at l o b. b)
 
 pub next_block-g-requires : goal.next_block-g-requires
 next_block-g-requires c =
-    let i2 = c.before.before in
-    let l2 = i2.before in
-    let l = l2.before.before in
-    asks l.loop-j.j l2.loop-k.k l.before.before.looks-tab.result (start l.before).pre l2.before.loop-j-test.true i2.loop-k-test.true l.before.before.before.zigzag_order-z.ensures l.before.before.looks-tab.ensures (sofar i2)
+    let i2 = c in
+    let l2 = i2 in
+    let l = l2 in
+    asks l.loop-j.j l2.loop-k.k l.looks-tab.result l.pre l2.loop-j-test.true i2.loop-k-test.true l.zigzag_order-z.ensures l.looks-tab.ensures (sofar i2)
 
 pub corner-c-requires : goal.corner-c-requires
 corner-c-requires c =
-    let i2 = c.before.before.before in
-    let l2 = i2.before in
-    let s = start l2.before.before.before in
-    (omega (arith, l2.before.loop-j-test.true), s.pre.plane.stride_le, omega (arith, i2.loop-k-test.true, s.pre.plane.stride_le))
+    let i2 = c in
+    let l2 = i2 in
+    let s = l2 in
+    (omega (arith, l2.loop-j-test.true), s.pre.plane.stride_le, omega (arith, i2.loop-k-test.true, s.pre.plane.stride_le))
 
 -- the block lies in the rows
-there : (k : After-corner-c) → let l2 = k.before.before.before.before.before in let s = start l2.before.before.before in
+there : (k : After-corner-c) → let l2 = k in let s = l2 in
     k.corner-c.result + (7 * s.args.h.stride + 8) ≤ length l2.loop-k.rows
 there k =
-    let i2 = k.before.before.before.before in
-    let l2 = i2.before in
-    let l = l2.before.before in
-    inside l.loop-j.j l2.loop-k.k (start l.before).pre l2.before.loop-j-test.true i2.loop-k-test.true k.corner-c.ensures (sofar i2)
+    let i2 = k in
+    let l2 = i2 in
+    let l = l2 in
+    inside l.loop-j.j l2.loop-k.k l.pre l2.loop-j-test.true i2.loop-k-test.true k.corner-c.ensures (sofar i2)
 
 pub offset_bounds-rows-c : goal.offset_bounds-rows-c
 offset_bounds-rows-c c =
-    let k = c.before in
-    let i2 = k.before.before.before.before in
-    let l2 = i2.before in
-    let l = l2.before.before in
-    omega (arith, corner_small l.loop-j.j l2.loop-k.k (start l.before).pre l2.before.loop-j-test.true i2.loop-k-test.true k.corner-c.ensures)
+    let k = c in
+    let i2 = k in
+    let l2 = i2 in
+    let l = l2 in
+    omega (arith, corner_small l.loop-j.j l2.loop-k.k l.pre l2.loop-j-test.true i2.loop-k-test.true k.corner-c.ensures)
 
 pub paint-requires : goal.paint-requires
 paint-requires c =
-    let k = c.before.before.before in
-    let i2 = k.before.before.before.before in
-    let l2 = i2.before in
-    let l = l2.before.before in
-    room l.loop-j.j l2.loop-k.k (start l.before).pre l2.before.loop-j-test.true i2.loop-k-test.true k.corner-c.ensures (sofar i2)
+    let k = c in
+    let i2 = k in
+    let l2 = i2 in
+    let l = l2 in
+    room l.loop-j.j l2.loop-k.k l.pre l2.loop-j-test.true i2.loop-k-test.true k.corner-c.ensures (sofar i2)
 
 pub overflow_step-k : goal.overflow_step-k
 overflow_step-k c =
-    let i2 = turn (painting c) in
-    record { fits = omega (arith, i2.loop2-test.taken, (start i2.before.before.before.before).pre.plane.stride_le) }
+    let i2 = c in
+    record { fits = omega (arith, i2.loop2-test.taken, i2.pre.plane.stride_le) }
 
 pub loop-k-smaller : goal.loop-k-smaller
 loop-k-smaller c =
-    let i2 = turn (painting c) in
+    let i2 = c in
     omega (arith, i2.loop2-test.taken)
 
 pub loop-k-preserved : goal.loop-k-preserved
 loop-k-preserved c =
-    let w = painting c in
-    let k = w.before.before.before.before in
-    let g = k.before in
-    let i2 = g.before.before.before in
-    let l2 = i2.before in
-    let l = l2.before.before in
-    let a = (start l.before).args in
-    let v = l.before.before.before.before.before.lane10 in (
+    let w = c in
+    let k = w in
+    let g = k in
+    let i2 = g in
+    let l2 = i2 in
+    let l = l2 in
+    let a = l.args in
+    let v = l.lane10 in (
       omega (arith, i2.loop2-test.taken),
       λ at r o x.
-          next l.loop.j l2.loop2.k g.next-block.result l2.loop2.rows o l2.before.loop-test.taken i2.loop2-test.taken g.next-block.ensures k.corner.ensures
-          (w.paint.ensures (not g.next-block.result.flat) a.s.preset a.h.place l.before.before.before.before.decode-numbers.ensures (to_z-of_z (sfits_of v.ok) ∙ v.ensures)) (l2.loop2.inv.1 at r o x),
+          next l.loop.j l2.loop2.k g.next-block.result l2.loop2.rows o l2.loop-test.taken i2.loop2-test.taken g.next-block.ensures k.corner.ensures
+          (w.paint.ensures (not g.next-block.result.flat) a.s.preset a.h.place l.decode-numbers.ensures (to_z-of_z (sfits_of v.ok) ∙ v.ensures)) (l2.loop2.inv.1 at r o x),
     )
 
 pub overflow_step-j : goal.overflow_step-j
-overflow_step-j c = record { fits = omega (arith, c.before.before.loop-j-test.true) }
+overflow_step-j c = record { fits = omega (arith, c.loop-j-test.true) }
 
 pub loop-j-smaller : goal.loop-j-smaller
-loop-j-smaller c = omega (arith, c.before.before.loop-j-test.true)
+loop-j-smaller c = omega (arith, c.loop-j-test.true)
 
 pub loop-j-preserved : goal.loop-j-preserved
 loop-j-preserved c =
-    let l2 = c.before in
-    let l = l2.before.before in (
-      omega (arith, l2.before.loop-j-test.true),
-      λ at o x. next_row l.loop-j.j l2.loop-k.k (omega (arith, c.loop-k-test.false, l2.loop-k.invariant.0)) (l2.loop-k.invariant.1 at (start l.before).args.rows.now o (l.loop-j.invariant.1 at o x)),
+    let l2 = c in
+    let l = l2 in (
+      omega (arith, l2.loop-j-test.true),
+      λ at o x. next_row l.loop-j.j l2.loop-k.k (omega (arith, c.loop-k-test.false, l2.loop-k.invariant.0)) (l2.loop-k.invariant.1 at l.args.rows.now o (l.loop-j.invariant.1 at o x)),
     )
 
 pub ends-requires : goal.ends-requires
 ends-requires c =
-    let l = c.before in
-    let e = ended l.loop-j.j (start l.before).pre l.loop-j.invariant.0 (behind l) in
+    let l = c in
+    let e = ended l.loop-j.j l.pre l.loop-j.invariant.0 (behind l) in
     (omega (arith, e.0), omega (arith, e.1))
 
 pub shape_of-rows : goal.shape_of-rows
-shape_of-rows c = as_long (behind c.before.before)
+shape_of-rows c = as_long (behind c)
 
 pub returns : goal.returns
 returns c =
-    let e = c.before in
-    let l = e.before in
-    done l.loop-j.j (start l.before).pre (omega (arith, e.loop-j-test.false, l.loop-j.invariant.0)) (behind l) c.ends.ensures.0 c.ends.ensures.1
+    let e = c in
+    let l = e in
+    done l.loop-j.j l.pre (omega (arith, e.loop-j-test.false, l.loop-j.invariant.0)) (behind l) c.ends.ensures.0 c.ends.ensures.1
 
 pub slice_bounds-paint-count : goal.slice_bounds-paint-count
-slice_bounds-paint-count c = omega (arith, there c.before)
+slice_bounds-paint-count c = omega (arith, there c)
 
 pub slice_bounds-paint-start : goal.slice_bounds-paint-start
-slice_bounds-paint-start c = omega (arith, there c.before)
+slice_bounds-paint-start c = omega (arith, there c)

@@ -8,45 +8,42 @@ use Rattle.judge.proofs.verdict.Planes.{may_judge, plane_no, plane_bad, plane_go
 use Rattle.judge.proofs.verdict.plane.Goals as goal
 use Rattle.judge.proofs.verdict.plane.Goals.{After-reading_plane-n, Else-n-gt0, Start}
 
-abbrev start : After-reading_plane-n → Start
-start n = n.before.before.before
-
 abbrev given : After-reading_plane-n → Buffers
-given n = buffers (start n).args.dc.now (start n).args.ac.now
+given n = buffers n.args.dc.now n.args.ac.now
 
 abbrev from : After-reading_plane-n → PerStream
-from n = positions_by (start n).args.at
+from n = positions_by n.args.at
 
 -- no question was answered "no"
-none : (c : Else-n-gt0) → c.before.reading_plane-n.result ≡ 0
+none : (c : Else-n-gt0) → c.reading_plane-n.result ≡ 0
 none c = omega (arith, c.if-n-gt0.false)
 
 pub returns-then-n-gt0 : goal.returns-then-n-gt0
 returns-then-n-gt0 c = λ depth samples h.
-    let n = c.before in
-    let a = (start n).args in
+    let n = c in
+    let a = n.args in
     plane_no depth a.s a.h samples (given n) (from n) (n.reading_plane-n.ensures depth samples h) c.if-n-gt0.true
 
 -- rows of that many samples, whatever they are
 pub plane-requires : goal.plane-requires
 plane-requires c =
-    let e = c.before in
-    let n = e.before in
-    let a = (start n).args in
+    let e = c in
+    let n = e in
+    let a = n.args in
     may_judge eight a.s a.h (replicate a.rows 0) (given n) (from n) (n.reading_plane-n.ensures eight (replicate a.rows 0) (length-replicate a.rows 0)) (none e)
 
 pub returns-then-plane : goal.returns-then-plane
 returns-then-plane c = λ depth samples h.
-    let j = c.before in
-    let e = j.before.before in
-    let n = e.before in
-    let a = (start n).args in
+    let j = c in
+    let e = j in
+    let n = e in
+    let a = n.args in
     plane_good depth a.s a.h samples (given n) (from n) (n.reading_plane-n.ensures depth samples h) (none e) (sym c.if-plane.true ∙ j.plane.ensures a.s.shift)
 
 pub returns-else-plane : goal.returns-else-plane
 returns-else-plane c = λ depth samples h.
-    let j = c.before in
-    let e = j.before.before in
-    let n = e.before in
-    let a = (start n).args in
+    let j = c in
+    let e = j in
+    let n = e in
+    let a = n.args in
     plane_bad depth a.s a.h samples (given n) (from n) (n.reading_plane-n.ensures depth samples h) (none e) (sym c.if-plane.false ∙ j.plane.ensures a.s.shift)

@@ -12,7 +12,7 @@ use Rattle.judge.proofs.verdict.slice.Goals.{After-reading_slice-n, Else-n-gt0}
 
 abbrev given : After-reading_slice-n → Depth → List ℕ → List ℕ → List ℕ → List ℕ → Given
 given n depth p0 p1 p2 p3 =
-    let a = n.before.before.before.args in
+    let a = n.args in
     record {
       depth = depth;
       s = a.s;
@@ -26,19 +26,19 @@ given n depth p0 p1 p2 p3 =
     }
 
 -- no question was answered "no"
-none : (c : Else-n-gt0) → c.before.reading_slice-n.result ≡ 0
+none : (c : Else-n-gt0) → c.reading_slice-n.result ≡ 0
 none c = omega (arith, c.if-n-gt0.false)
 
 pub returns-then-n-gt0 : goal.returns-then-n-gt0
 returns-then-n-gt0 c = λ depth p0 p1 p2 p3 h0 h1 h2 h3.
-    let n = c.before in
+    let n = c in
     slice_no (given n depth p0 p1 p2 p3) (n.reading_slice-n.ensures depth p0 p1 p2 p3 h0 h1 h2 h3) c.if-n-gt0.true
 
 -- rows of that many samples, whatever they are
 pub slice-requires : goal.slice-requires
 slice-requires c =
-    let n = c.before in
-    let l = n.before.before.before.args.rows in
+    let n = c in
+    let l = n.args.rows in
     let p0 : List ℕ = replicate (get_or l 0 0) 0 in
     let p1 : List ℕ = replicate (get_or l 1 0) 0 in
     let p2 : List ℕ = replicate (get_or l 2 0) 0 in
@@ -48,12 +48,12 @@ slice-requires c =
 
 pub returns-then-slice : goal.returns-then-slice
 returns-then-slice c = λ depth p0 p1 p2 p3 h0 h1 h2 h3.
-    let j = c.before in
-    let n = j.before.before in
-    slice_good (given n depth p0 p1 p2 p3) (n.reading_slice-n.ensures depth p0 p1 p2 p3 h0 h1 h2 h3) (none j.before) j.slice.ensures c.if-slice.true
+    let j = c in
+    let n = j in
+    slice_good (given n depth p0 p1 p2 p3) (n.reading_slice-n.ensures depth p0 p1 p2 p3 h0 h1 h2 h3) (none j) j.slice.ensures c.if-slice.true
 
 pub returns-else-slice : goal.returns-else-slice
 returns-else-slice c = λ depth p0 p1 p2 p3 h0 h1 h2 h3.
-    let j = c.before in
-    let n = j.before.before in
-    slice_bad (given n depth p0 p1 p2 p3) (n.reading_slice-n.ensures depth p0 p1 p2 p3 h0 h1 h2 h3) (none j.before) j.slice.ensures c.if-slice.false
+    let j = c in
+    let n = j in
+    slice_bad (given n depth p0 p1 p2 p3) (n.reading_slice-n.ensures depth p0 p1 p2 p3 h0 h1 h2 h3) (none j) j.slice.ensures c.if-slice.false

@@ -6,14 +6,14 @@ use Rattle.outs.proofs.frame.frame_out.Goals as goal
 
 pub returns-in-Refused : goal.returns-in-Refused
 returns-in-Refused c =
-    let g = c.before.answer-1.given in
-    let e : frame.Refused g.0.0 ≡ c.before.before.before.args.answer = sym g.1 in
+    let g = c.answer-1.given in
+    let e : frame.Refused g.0.0 ≡ c.args.answer = sym g.1 in
     rw (ap frame_says (sym e))
 
 pub returns-in-Frame : goal.returns-in-Frame
 returns-in-Frame c =
-    let f = c.before.before.before in
-    let k = f.before.before in
+    let f = c in
+    let k = f in
     let g = k.answer-in-Frame-1.given in
-    let e : frame.Frame g.0.0 ≡ k.before.before.args.answer = sym g.1 in
+    let e : frame.Frame g.0.0 ≡ k.args.answer = sym g.1 in
     rw (ap frame_says (sym e), f.flag.ensures, c.flag-in-Frame.ensures)

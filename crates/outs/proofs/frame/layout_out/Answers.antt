@@ -6,12 +6,12 @@ use Rattle.outs.proofs.frame.layout_out.Goals as goal
 
 pub returns-in-Refused : goal.returns-in-Refused
 returns-in-Refused c =
-    let g = c.before.answer-1.given in
-    let e : layout.Refused g.0.0 ≡ c.before.before.before.args.answer = sym g.1 in
+    let g = c.answer-1.given in
+    let e : layout.Refused g.0.0 ≡ c.args.answer = sym g.1 in
     rw (ap layout_says (sym e))
 
 pub returns-in-Fits : goal.returns-in-Fits
 returns-in-Fits c =
-    let g = c.before.answer-in-Fits-1.given in
-    let e : layout.Fits g.0.0 ≡ c.before.before.before.args.answer = sym g.1 in
+    let g = c.answer-in-Fits-1.given in
+    let e : layout.Fits g.0.0 ≡ c.args.answer = sym g.1 in
     rw (ap layout_says (sym e))

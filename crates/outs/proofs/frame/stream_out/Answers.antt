@@ -6,17 +6,17 @@ use Rattle.outs.proofs.frame.stream_out.Goals as goal
 
 pub returns-in-Refused : goal.returns-in-Refused
 returns-in-Refused c was out out' a h =
-    let g = c.before.answer-1.given in
-    let e : stream.Refused g.0.0 g.0.1.0 ≡ c.before.before.before.args.answer = sym g.1 in
+    let g = c.answer-1.given in
+    let e : stream.Refused g.0.0 g.0.1.0 ≡ c.args.answer = sym g.1 in
     let p = stream_refused e h in
     rw (p.0, p.1)
 
 pub returns-in-Next : goal.returns-in-Next
 returns-in-Next c was out out' a h =
-    let n = c.before in
-    let f = n.before in
-    let t = f.before in
-    let k = t.before.before in
+    let n = c in
+    let f = n in
+    let t = f in
+    let k = t in
     let g = k.answer-in-Next-1.given in
-    let e : stream.Next g.0.0 ≡ k.before.before.args.answer = sym g.1 in
+    let e : stream.Next g.0.0 ≡ k.args.answer = sym g.1 in
     rw (stream_next was out e h, f.flag.ensures, t.ac_turn.ensures, n.next.ensures, c.at.ensures)

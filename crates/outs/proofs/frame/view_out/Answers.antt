@@ -6,12 +6,12 @@ use Rattle.outs.proofs.frame.view_out.Goals as goal
 
 pub returns-in-Refused : goal.returns-in-Refused
 returns-in-Refused c =
-    let g = c.before.answer-1.given in
-    let e : view.Refused g.0.0 ≡ c.before.before.before.args.answer = sym g.1 in
+    let g = c.answer-1.given in
+    let e : view.Refused g.0.0 ≡ c.args.answer = sym g.1 in
     rw (ap view_says (sym e))
 
 pub returns-in-Part : goal.returns-in-Part
 returns-in-Part c =
-    let g = c.before.answer-in-Part-1.given in
-    let e : view.Part g.0.0 g.0.1.0 ≡ c.before.before.before.args.answer = sym g.1 in
+    let g = c.answer-in-Part-1.given in
+    let e : view.Part g.0.0 g.0.1.0 ≡ c.args.answer = sym g.1 in
     rw (ap view_says (sym e))

@@ -8,12 +8,12 @@ use Rattle.outs.proofs.plane.report_out.Goals as goal
 
 pub returns-in-Refused : goal.returns-in-Refused
 returns-in-Refused c bytes =
-    let a = c.before.before.before.args in
-    let e : plane.Refused c.before.answer-1.given.0.0 ≡ a.answer = sym c.before.answer-1.given.1 in
+    let a = c.args in
+    let e : plane.Refused c.answer-1.given.0.0 ≡ a.answer = sym c.answer-1.given.1 in
     ap (λ (x : PlaneEnd). content (report_says a.ac_at_lem.now x bytes)) e
 
 pub returns-in-At : goal.returns-in-At
 returns-in-At c bytes =
-    let a = c.before.before.before.args in
-    let e : plane.At c.before.answer-in-At-1.given.0.0 ≡ a.answer = sym c.before.answer-in-At-1.given.1 in
+    let a = c.args in
+    let e : plane.At c.answer-in-At-1.given.0.0 ≡ a.answer = sym c.answer-in-At-1.given.1 in
     ap (λ (x : PlaneEnd). content (report_says a.ac_at_lem.now x bytes)) e

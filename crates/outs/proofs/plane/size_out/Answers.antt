@@ -6,12 +6,12 @@ use Rattle.outs.proofs.plane.size_out.Goals as goal
 
 pub returns-in-Refused : goal.returns-in-Refused
 returns-in-Refused c =
-    let g = c.before.answer-1.given in
-    let e : size.Refused g.0.0 ≡ c.before.before.before.args.answer = sym g.1 in
+    let g = c.answer-1.given in
+    let e : size.Refused g.0.0 ≡ c.args.answer = sym g.1 in
     rw (ap size_says (sym e))
 
 pub returns-in-Sized : goal.returns-in-Sized
 returns-in-Sized c =
-    let g = c.before.answer-in-Sized-1.given in
-    let e : size.Sized g.0.0 g.0.1.0 ≡ c.before.before.before.args.answer = sym g.1 in
+    let g = c.answer-in-Sized-1.given in
+    let e : size.Sized g.0.0 g.0.1.0 ≡ c.args.answer = sym g.1 in
     rw (ap size_says (sym e))

@@ -14,41 +14,41 @@ use Rattle.preview.proofs.report.block_report.Goals.{Else-x-gt0}
 
 -- no question was answered "no"
 none : (c : Else-x-gt0)
-    → let a = c.before.before.before.before.args in first_no (report_questions a.stride a.report.now (length a.ac.now) a.at) ≡ 0
+    → let a = c.args in first_no (report_questions a.stride a.report.now (length a.ac.now) a.at) ≡ 0
 none c =
-    let a = c.before.before.before.before.args in
-    let z : c.before.report_number-x.result ≡ 0 = omega (arith, c.if-x-gt0.false) in
-    sym (c.before.report_number-x.ensures a.report.now refl) ∙ z
+    let a = c.args in
+    let z : c.report_number-x.result ≡ 0 = omega (arith, c.if-x-gt0.false) in
+    sym (c.report_number-x.ensures a.report.now refl) ∙ z
 
 pub returns-then-x-gt0 : goal.returns-then-x-gt0
 returns-then-x-gt0 c =
-    let a = c.before.before.before.before.args in
-    answer_no a.stride a.report.now a.ac.now a.at (c.before.report_number-x.ensures a.report.now refl) c.if-x-gt0.true
+    let a = c.args in
+    answer_no a.stride a.report.now a.ac.now a.at (c.report_number-x.ensures a.report.now refl) c.if-x-gt0.true
 
 pub ac_good-requires : goal.ac_good-requires
 ac_good-requires c =
-    let a = c.before.before.before.before.args in
+    let a = c.args in
     let k = yes a.stride a.report.now (length a.ac.now) a.at (none c) in
     (omega (arith, k.start), omega (arith, k.wide))
 
 pub store_report-end-requires : goal.store_report-end-requires
 store_report-end-requires c =
-    let t = c.before in
-    let n = t.before.before in
-    let a = n.before.before.before.before.args in
+    let t = c in
+    let n = t in
+    let a = n.args in
     let k = yes a.stride a.report.now (length a.ac.now) a.at (none n) in
-    (k.start, omega (arith, k.wide), omega (arith, k.room), sym t.before.ac_good.ensures ∙ t.if-ac_good.true)
+    (k.start, omega (arith, k.wide), omega (arith, k.room), sym t.ac_good.ensures ∙ t.if-ac_good.true)
 
 pub returns-then-ac_good : goal.returns-then-ac_good
 returns-then-ac_good c =
-    let p = c.before.before in
-    let n = p.before.before.before.before in
-    let a = n.before.before.before.before.args in
+    let p = c in
+    let n = p in
+    let a = n.args in
     answer_end a.stride a.report.now a.ac.now a.at (none n) p.store_report-end.ensures.0 p.store_report-end.ensures.1
 
 pub returns : goal.returns
 returns c =
-    let n = c.before.before in
-    let a = n.before.before.before.before.args in
+    let n = c in
+    let a = n.args in
     answer_bad a.stride a.report.now a.ac.now a.at (none n)
-    (not_good (read_blocks (2 * (a.stride / 8)) (bit_at a.ac.now) (8 * a.at) 0) (sym c.before.ac_good.ensures ∙ c.if-ac_good.false))
+    (not_good (read_blocks (2 * (a.stride / 8)) (bit_at a.ac.now) (8 * a.at) 0) (sym c.ac_good.ensures ∙ c.if-ac_good.false))

@@ -14,13 +14,13 @@ use Rattle.preview.proofs.report.report_number.Goals as goal
 pub returns : goal.returns
 unfolding report_questions
 returns c =
-    let w = c.before in
-    let q5 = w.before in
-    let q7 = q5.before in
-    let b = q7.before in
-    let l = b.before in
-    let s = l.before in
-    let a = s.before.args in
+    let w = c in
+    let q5 = w in
+    let q7 = q5 in
+    let b = q7 in
+    let l = b in
+    let s = l in
+    let a = s.args in
     λ report e.
     put (stride_ok a.stride) no_stride _ (c.or_else.ensures ∙ ap (λ (x : Bool). or_else x no_stride q5.or_else-from_5.result) w.stride_ok.ensures)
     (put _ no_rows _ (q5.or_else-from_5.ensures ∙ (λ i. or_else (leb (a.stride / 4) (sym e i)) no_rows q7.or_else-from_7.result))

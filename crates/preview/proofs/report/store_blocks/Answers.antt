@@ -29,7 +29,7 @@ cursor-c-requires c = omega arith
 
 pub loop-i-init : goal.loop-i-init
 loop-i-init c =
-    let s = c.before.before.before.before in
+    let s = c in
     let a = s.args in
     let r = c.cursor-c in
     let z : a.n ≡ a.n - 0 = omega arith in (
@@ -45,21 +45,21 @@ bounds-report-i c = omega arith
 
 pub skip_block-requires : goal.skip_block-requires
 skip_block-requires c =
-    let i = c.before.before.before.loop-i.invariant in
+    let i = c.loop-i.invariant in
     (i.2.holds, omega (arith, i.2.near), i.2.few, i.4)
 
 pub least_after-least-requires : goal.least_after-least-requires
-least_after-least-requires c = omega (arith, c.before.before.before.before.before.before.before.loop-i.invariant.2.near)
+least_after-least-requires c = omega (arith, c.loop-i.invariant.2.near)
 
 pub shape_of-report-in-Bad : goal.shape_of-report-in-Bad
-shape_of-report-in-Bad c = simp length-set c.before.before.before.before.before.before.loop-i.invariant.1
+shape_of-report-in-Bad c = simp length-set c.loop-i.invariant.1
 
 pub returns-in-Bad : goal.returns-in-Bad
 returns-in-Bad c =
-    let s = c.before.before.before.before.before.before.before.before.before.before.before in
+    let s = c in
     let a = s.args in
-    let l = c.before.before.before.before.before.before.loop-i in
-    let b = c.before.before.skip_block in
+    let l = c.loop-i in
+    let b = c.skip_block in
     let m = a.n - (l.i + 1) in
     let z : a.n - l.i ≡ suc m = omega arith in
     let e : b.result ≡ block.Bad = cc in
@@ -87,13 +87,13 @@ module _ (s : List ℕ) (p n : ℕ) (c : AcCursor) (pending m left : ℕ) (z : l
 
 pub loop-i-preserved : goal.loop-i-preserved
 loop-i-preserved c =
-    let s = c.before.before.before.before.before.before.before.before in
+    let s = c in
     let a = s.args in
-    let l = c.before.before.before.loop-i in
+    let l = c.loop-i in
     let m = a.n - (l.i + 1) in
     let z : a.n - l.i ≡ suc m = omega arith in
-    let one = next a.ac.now (8 * a.at) a.n l.c l.pending m (a.n - l.i) z l.invariant.2 s.requires.4 l.report l.i (omega (arith, l.invariant.1)) c.before.flat.result
-    c.before.flat.ensures in
+    let one = next a.ac.now (8 * a.at) a.n l.c l.pending m (a.n - l.i) z l.invariant.2 s.requires.4 l.report l.i (omega (arith, l.invariant.1)) c.flat.result
+    c.flat.ensures in
     ⊎_elim
     (λ w.
     let d = w.3.given in
@@ -107,15 +107,15 @@ loop-i-preserved c =
     c.if-pending-lt64.branch
 
 pub end_byte-requires : goal.end_byte-requires
-end_byte-requires c = omega (arith, c.before.loop-i.invariant.2.near)
+end_byte-requires c = omega (arith, c.loop-i.invariant.2.near)
 
 pub shape_of-report : goal.shape_of-report
-shape_of-report c = c.before.before.loop-i.invariant.1
+shape_of-report c = c.loop-i.invariant.1
 
 pub returns : goal.returns
 returns c =
-    let a = c.before.before.before.before.before.before.before.args in
-    let l = c.before.before.loop-i in
+    let a = c.args in
+    let l = c.loop-i in
     let z : a.n - l.i ≡ 0 = omega arith in (
       ap accepted c.end_byte.ensures
           ∙ end_at (read_blocks a.n (bit_at a.ac.now) (8 * a.at) 0) l.c.pos l.pending (going_over a.ac.now (8 * a.at) a.n l.c l.pending (a.n - l.i) z l.invariant.2),

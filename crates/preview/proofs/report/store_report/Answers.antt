@@ -7,7 +7,7 @@ use Rattle.preview.proofs.report.store_report.Goals as goal
 
 pub store_blocks-requires-2 : goal.store_blocks-requires-2
 store_blocks-requires-2 c =
-    let t = c.before.before.looks-tab in
-    let s = c.before.before.before.before.before.before in
+    let t = c.looks-tab in
+    let s = c in
     let whole : length t.result ≡ 1024 = search rules in
     (s.requires.0, s.requires.1, (omega arith, λ _. (omega (arith, whole), t.ensures)), s.requires.2, s.requires.3)

@@ -12,7 +12,7 @@ use Rattle.preview.proofs.row.preview_row.Goals as goal
 
 pub loop-k-init : goal.loop-k-init
 loop-k-init c =
-    let s = c.before.before in
+    let s = c in
     let a = s.args in (
       omega arith,
       refl,
@@ -21,7 +21,7 @@ loop-k-init c =
 
 pub next_dc-g-requires : goal.next_dc-g-requires
 next_dc-g-requires c =
-    let i = c.before.loop-k.invariant in
+    let i = c.loop-k.invariant in
     (i.2.holds, omega (arith, i.2.near))
 
 pub bounds-out-k : goal.bounds-out-k
@@ -35,26 +35,26 @@ loop-k-smaller c = omega arith
 
 pub loop-k-preserved : goal.loop-k-preserved
 loop-k-preserved c =
-    let s = c.before.before.before.before.before.before.before.before in
+    let s = c in
     let a = s.args in
-    let l = c.before.before.before.before.before.loop-k in
-    let g = c.before.before.before.next_dc-g in
-    let d = c.before.before.settled-last in
+    let l = c.loop-k in
+    let g = c.next_dc-g in
+    let d = c.settled-last in
     let w : SFits w16 d.result = sfits_of d.type_inv in (
       omega arith,
       simp length-set l.invariant.1,
       row_next a.dc.now a.shift (to_z w16 (of_z w16 a.level)) a.columns (to_z w16 (of_z w16 a.prior)) a.out.now s.requires.4 a.c0.pos l.c (to_z w16 l.last) l.k
-          l.out l.invariant.2 (omega arith) g.result g.ensures (rw (to_z-of_z w) w) (to_z-of_z w ∙ d.ensures) c.before.preview_byte.ensures,
+          l.out l.invariant.2 (omega arith) g.result g.ensures (rw (to_z-of_z w) w) (to_z-of_z w ∙ d.ensures) c.preview_byte.ensures,
     )
 
 pub shape_of-out : goal.shape_of-out
-shape_of-out c = c.before.loop-k.invariant.1
+shape_of-out c = c.loop-k.invariant.1
 
 pub returns : goal.returns
 returns c =
-    let s = c.before.before.before.before in
+    let s = c in
     let a = s.args in
-    let l = c.before.loop-k in
+    let l = c.loop-k in
     rw (to_z-of_z s.ranges.level, to_z-of_z s.ranges.prior) at
     (row_done a.dc.now a.shift (to_z w16 (of_z w16 a.level)) a.columns (to_z w16 (of_z w16 a.prior)) a.out.now s.requires.4 a.c0.pos l.c (to_z w16 l.last) l.k l.out
     l.invariant.2 (omega arith) (omega arith))

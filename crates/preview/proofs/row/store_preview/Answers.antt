@@ -18,32 +18,32 @@ cursor-c-requires c = omega arith
 
 pub preview_row-row-requires : goal.preview_row-row-requires
 preview_row-row-requires c =
-    let u = c.before.before in
-    let s = u.before.before.before.before in
+    let u = c in
+    let s = u in
     (u.cursor-c.ensures.0, omega (arith, u.cursor-c.ensures.1, s.requires.4), s.requires.0, s.requires.1, s.requires.2)
 
 pub preview_row-end-requires : goal.preview_row-end-requires
 preview_row-end-requires c =
-    let v = c.before.before.before.before.before in
-    let u = v.before.before.before in
-    let s = u.before.before.before.before in
+    let v = c in
+    let u = v in
+    let s = u in
     (v.preview_row-row.ensures.holds, omega (arith, v.preview_row-row.ensures.near, u.cursor-c.ensures.1, s.requires.1, s.requires.4), s.requires.0, s.requires.1, s.requires.3)
 
 pub end_byte-requires : goal.end_byte-requires
 end_byte-requires c =
-    let w = c.before.before in
-    let v = w.before.before.before.before.before.before in
-    let u = v.before.before.before in
-    let s = u.before.before.before.before in
+    let w = c in
+    let v = w in
+    let u = v in
+    let s = u in
     omega (arith, w.preview_row-end.ensures.near, v.preview_row-row.ensures.near, u.cursor-c.ensures.1, s.requires.1, s.requires.4)
 
 pub returns : goal.returns
 returns c =
-    let w = c.before.before.before in
-    let v = w.before.before.before.before.before.before in
-    let l = v.before.before in
-    let u = l.before in
-    let s = u.before.before.before.before in
+    let w = c in
+    let v = w in
+    let l = v in
+    let u = l in
+    let s = u in
     let a = s.args in
     let e : to_z w16 (of_z w16 l.lane8-level.result) ≡ level eight a.place = to_z-of_z (sfits_of l.lane8-level.type_inv) ∙ l.lane8-level.ensures in
     let f : to_z w16 (of_z w16 v.preview_row-row.result.last) ≡ v.preview_row-row.result.last = to_z-of_z v.preview_row-row.ensures.fits in

@@ -8,4 +8,4 @@ pub loop-i-init : goal.loop-i-init
 loop-i-init c = (omega arith, refl, (omega arith, omega arith))
 
 pub loop-i-preserved : goal.loop-i-preserved
-loop-i-preserved c = (omega arith, search rules, c.before.before.one-a.ensures)
+loop-i-preserved c = (omega arith, search rules, c.one-a.ensures)

@@ -5,6 +5,6 @@ use Rattle.probe.proofs.of_bitacc.value.Goals as goal
 
 pub put_value-requires : goal.put_value-requires
 put_value-requires c =
-    let s = c.before.before.before in
+    let s = c in
     let h : 0 < s.args.c = search rules in
     (h, room_of_lem s.args.a _ s.args.out.now s.requires (value_long s.args.c h s.ranges.c.fits))

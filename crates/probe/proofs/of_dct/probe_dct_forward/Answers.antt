@@ -4,6 +4,6 @@ use Rattle.probe.proofs.of_dct.probe_dct_forward.Goals as goal
 
 pub forward-z-requires : goal.forward-z-requires
 forward-z-requires c =
-    let n = c.before.before in
-    let t = n.before in
-    record { preset = t.before.args.preset; preset_lt = omega (arith, t.if-preset-gt-PRESET_MAX.false); numbers = n.encode_numbers-k.ensures }
+    let n = c in
+    let t = n in
+    record { preset = t.args.preset; preset_lt = omega (arith, t.if-preset-gt-PRESET_MAX.false); numbers = n.encode_numbers-k.ensures }

@@ -7,10 +7,10 @@ use Rattle.questions.proofs.four.strides_ok.Goals as goal
 
 pub returns : goal.returns
 returns c =
-    let b3 = c.before in
-    let b2 = b3.before in
-    let b1 = b2.before in
-    let b0 = b1.before in
-    let n = b0.before.before.args.f.count in
+    let b3 = c in
+    let b2 = b3 in
+    let b1 = b2 in
+    let b0 = b1 in
+    let n = b0.args.f.count in
     c.all_ok.ensures
     ∙ (λ i. all_of (take n (b0.stride_ok-b0.ensures i ∷ b1.stride_ok-b1.ensures i ∷ b2.stride_ok-b2.ensures i ∷ b3.stride_ok-b3.ensures i ∷ [])))

@@ -9,10 +9,10 @@ use Rattle.questions.proofs.of_call.coding_plane.Goals as goal
 
 pub returns : goal.returns
 returns c =
-    let l = c.before.before in
-    let s = l.before in
-    let w = s.before in
-    let a = w.before.args in
+    let l = c in
+    let s = l in
+    let w = s in
+    let a = w.args in
     λ depth samples e. c.coding.ensures
     ∙ coding_is (plane_call depth a.s a.h samples) (lengths_by a.dc a.ac) (starts_by a.dc a.ac) w.Place-ok.ensures
     (s.stride_ok-strides.ensures ∙ and_yes (stride_ok a.h.stride))

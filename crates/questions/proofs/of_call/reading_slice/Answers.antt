@@ -8,10 +8,10 @@ use Rattle.questions.proofs.of_call.reading_slice.Goals as goal
 
 pub returns : goal.returns
 returns c =
-    let l = c.before in
-    let s = l.before in
-    let w = s.before in
-    let a = w.before.args in
+    let l = c in
+    let s = l in
+    let w = s in
+    let a = w.args in
     λ depth p0 p1 p2 p3 e0 e1 e2 e3. c.reading.ensures
     ∙ reading_is (slice_call depth a.s a.f p0 p1 p2 p3) (lengths_by a.dc a.ac) (starts_by a.dc a.ac)
     w.count_ok-which.ensures

@@ -12,15 +12,15 @@ use Rattle.questions.proofs.order.coding.Goals as goal
 
 pub returns : goal.returns
 returns c =
-    let q6 = c.before in
-    let q7 = q6.before in
-    let s = q7.before in
-    let sa = s.before in
-    let sd = sa.before in
-    let b = sd.before in
-    let ac = b.before in
-    let dc = ac.before in
-    let a = dc.before.args in
+    let q6 = c in
+    let q7 = q6 in
+    let s = q7 in
+    let sa = s in
+    let sd = sa in
+    let b = sd in
+    let ac = b in
+    let dc = ac in
+    let a = dc.args in
     let at = starts_by a.dc a.ac in
     let room = fits (together at (room_of a.columns)) (lengths_by a.dc a.ac) in
     c.first_five.ensures (ask room no_room ∷ coding_starts_question at ∷ [])

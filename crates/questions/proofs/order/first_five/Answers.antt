@@ -9,13 +9,13 @@ use Rattle.questions.proofs.order.first_five.Goals as goal
 
 pub returns : goal.returns
 returns c =
-    let p = c.before in
-    let q2 = p.before in
-    let h = q2.before in
-    let q3 = h.before in
-    let q4 = q3.before in
-    let q5 = q4.before in
-    let a = q5.before.args in
+    let p = c in
+    let q2 = p in
+    let h = q2 in
+    let q3 = h in
+    let q4 = q3 in
+    let q5 = q4 in
+    let a = q5.args in
     λ qs e. put (preset_ok a.s.preset) no_preset _ (c.or_else.ensures ∙ ap (λ (x : Bool). or_else x no_preset q2.or_else-from_2.result) p.preset_ok.ensures)
     (put (shift_ok a.s.shift) no_shift _ (q2.or_else-from_2.ensures ∙ ap (λ (x : Bool). or_else x no_shift q3.or_else-from_3.result) h.shift_ok.ensures)
     (put a.which no_plane _ q3.or_else-from_3.ensures (put a.strides no_stride _ q4.or_else-from_4.ensures (put a.rows no_rows qs q5.or_else-from_5.ensures e))))

@@ -11,15 +11,15 @@ use Rattle.questions.proofs.order.reading.Goals as goal
 
 pub returns : goal.returns
 returns c =
-    let q7 = c.before in
-    let b = q7.before in
-    let l = b.before in
-    let la = l.before in
-    let ld = la.before in
-    let s = ld.before in
-    let sa = s.before in
-    let sd = sa.before in
-    let a = sd.before.args in
+    let q7 = c in
+    let b = q7 in
+    let l = b in
+    let la = l in
+    let ld = la in
+    let s = ld in
+    let sa = s in
+    let sd = sa in
+    let a = sd.args in
     c.first_five.ensures (reading_starts_question (lengths_by a.dc a.ac) (starts_by a.dc a.ac) ∷ [])
     (put _ no_start []
     (q7.or_else-from_7.ensures ∙ ap (λ (x : Bool). or_else x no_start 0)

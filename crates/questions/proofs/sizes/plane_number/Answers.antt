@@ -12,5 +12,5 @@ use Rattle.questions.proofs.sizes.plane_number.Goals as goal
 pub returns : goal.returns
 unfolding plane_size_questions
 returns c =
-    let s = c.before in
-    put (stride_ok s.before.args.stride) no_stride [] (c.or_else.ensures ∙ ap (λ (x : Bool). or_else x no_stride 0) s.stride_ok.ensures) (sym none)
+    let s = c in
+    put (stride_ok s.args.stride) no_stride [] (c.or_else.ensures ∙ ap (λ (x : Bool). or_else x no_stride 0) s.stride_ok.ensures) (sym none)

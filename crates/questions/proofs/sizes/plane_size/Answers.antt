@@ -7,13 +7,13 @@ use Rattle.questions.proofs.sizes.plane_size.Goals as goal
 use Rattle.questions.proofs.sizes.plane_size.Goals.{Else-n-gt0}
 
 pub returns-then-n-gt0 : goal.returns-then-n-gt0
-returns-then-n-gt0 c = plane_refused c.before.before.args.stride c.before.plane_number-n.ensures c.if-n-gt0.true
+returns-then-n-gt0 c = plane_refused c.args.stride c.plane_number-n.ensures c.if-n-gt0.true
 
-accepted : (c : Else-n-gt0) → c.before.plane_number-n.result ≡ 0
+accepted : (c : Else-n-gt0) → c.plane_number-n.result ≡ 0
 accepted c = omega (arith, c.if-n-gt0.false)
 
-few : (c : Else-n-gt0) → c.before.before.args.stride / 8 ≤ 960
-few c = plane_columns c.before.before.args.stride c.before.plane_number-n.ensures (accepted c)
+few : (c : Else-n-gt0) → c.args.stride / 8 ≤ 960
+few c = plane_columns c.args.stride c.plane_number-n.ensures (accepted c)
 
 pub overflow_mul-result : goal.overflow_mul-result
 overflow_mul-result c = record { fits = omega (arith, few c) }
@@ -22,4 +22,4 @@ pub overflow_mul-result-2 : goal.overflow_mul-result-2
 overflow_mul-result-2 c = record { fits = omega (arith, few c) }
 
 pub returns : goal.returns
-returns c = plane_sized c.before.before.args.stride c.before.plane_number-n.ensures (accepted c)
+returns c = plane_sized c.args.stride c.plane_number-n.ensures (accepted c)

@@ -14,10 +14,10 @@ use Rattle.questions.proofs.sizes.slice_number.Goals as goal
 pub returns : goal.returns
 unfolding slice_size_questions
 returns c =
-    let n = c.before in
-    let q4 = n.before in
-    let s = q4.before in
-    let f = s.before.args.f in
+    let n = c in
+    let q4 = n in
+    let s = q4 in
+    let f = s.args.f in
     put (count_ok f.count) no_plane _ (c.or_else.ensures ∙ ap (λ (x : Bool). or_else x no_plane q4.or_else-from_4.result) n.count_ok.ensures)
     (put _ no_stride []
     (q4.or_else-from_4.ensures ∙ ap (λ (x : Bool). or_else x no_stride 0) (s.strides_ok.ensures ∙ strides f.count (stride_by f 0) (stride_by f 1) (stride_by f 2) (stride_by f 3)))

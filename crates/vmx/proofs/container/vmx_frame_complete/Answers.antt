@@ -7,6 +7,6 @@ use Rattle.vmx.proofs.container.vmx_frame_complete.Goals as goal
 
 pub returns : goal.returns
 returns c =
-    let k = c.before.before in
-    let a = k.before.args in
+    let k = c in
+    let a = k.args in
     c.complete_out.ensures ∙ ap (λ (x : Answer Bool). handed_by x flag_of a.complete.now) k.complete-r.ensures

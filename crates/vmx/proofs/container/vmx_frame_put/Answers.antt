@@ -9,10 +9,10 @@ use Rattle.vmx.proofs.container.vmx_frame_put.Goals as goal
 
 pub returns : goal.returns
 returns c =
-    let v = c.before.before.before.before.before.before in
-    let b = v.before.before in
-    let n = b.before.before.before.before in
-    let a = n.before.before.before.args in
+    let v = c in
+    let b = v in
+    let n = b in
+    let a = n.args in
     let q =
     ap₂ (λ (x : Build) (k : Bool). stream_of a.width a.height x k a.slice a.stream.now a.out.now) b.new-b.ensures n.kind_of-kind.ensures in
     rw (← q)

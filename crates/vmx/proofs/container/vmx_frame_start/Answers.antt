@@ -5,7 +5,7 @@ use Rattle.vmx.proofs.container.vmx_frame_start.Goals as goal
 
 pub returns : goal.returns
 returns c =
-    let v = c.before.before.before.before.before.before in
-    let a = v.before.before.before.before.args in
+    let v = c in
+    let a = v.args in
     c.header_out.ensures a.out.now _ (header_of a.width a.height (is_on a.interlaced) a.quality a.dc-shift a.out.now a.at.now)
     v.start_frame-r.ensures

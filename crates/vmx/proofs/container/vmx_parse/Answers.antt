@@ -3,5 +3,5 @@ use Rattle.vmx.proofs.container.vmx_parse.Goals as goal
 
 pub returns : goal.returns
 returns c =
-    let v = c.before.before.before.before.before.before in
+    let v = c in
     rw (← v.parse-r.ensures) c.frame_out.ensures

@@ -6,16 +6,16 @@ use Rattle.vmx.proofs.container.vmx_preview_size.Goals as goal
 
 pub returns-then-x-gt0 : goal.returns-then-x-gt0
 returns-then-x-gt0 c =
-    let n = c.before in
-    let a = n.before.args in
+    let n = c in
+    let a = n.args in
     rw (no_size_lem a.width a.height (preview_size a.width a.height (is_on a.interlaced)) n.size_number-x.ensures c.if-x-gt0.true)
 
 pub returns : goal.returns
 returns c =
-    let k = c.before in
-    let t = k.before in
-    let n = t.before in
-    let a = n.before.args in
+    let k = c in
+    let t = k in
+    let n = t in
+    let a = n.args in
     rw (
       fits a.width a.height (preview_size a.width a.height (is_on a.interlaced)) n.size_number-x.ensures t.if-x-gt0.false,
       k.preview_width.ensures,

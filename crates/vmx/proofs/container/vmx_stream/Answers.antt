@@ -6,7 +6,7 @@ use Rattle.vmx.proofs.container.vmx_stream.Goals as goal
 
 pub returns : goal.returns
 returns c =
-    let v = c.before.before.before in
-    let a = v.before.before.before.args in
-    let q = v.view_at-r.ensures ∙ ap (λ (x : Bool). view_of a.width a.height a.frame.now x a.slice) v.before.kind_of-kind.ensures in
+    let v = c in
+    let a = v.args in
+    let q = v.view_at-r.ensures ∙ ap (λ (x : Bool). view_of a.width a.height a.frame.now x a.slice) v.kind_of-kind.ensures in
     rw (← q) c.View-out.ensures

@@ -5,7 +5,7 @@ use Rattle.vmx.proofs.container.vmx_streams.Goals as goal
 
 pub returns : goal.returns
 returns c =
-    let v = c.before.before.before.before.before.before.before.before in
-    let a = v.before.before.before.before.args in
+    let v = c in
+    let a = v.args in
     let was = frame_places a.interlaced.now a.quality.now a.dc-shift.now a.header-len.now a.ac.now in
     streams_handed was c.frame_out.ensures v.all_views-r.ensures

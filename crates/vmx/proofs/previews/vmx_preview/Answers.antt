@@ -4,15 +4,15 @@ use Rattle.vmx.proofs.previews.vmx_preview.Goals as goal
 
 pub returns : goal.returns
 returns c =
-    let v = c.before.before.before.before.before.before in
+    let v = c in
     handed_out _ (c.preview_out.ensures _ _) v.preview-r.ensures
 
 -- the call changed no length
 pub shape_of-upper : goal.shape_of-upper
-shape_of-upper c = c.before.before.before.before.before.before.preview-r.auto.1.1.0
+shape_of-upper c = c.preview-r.auto.1.1.0
 
 pub shape_of-lower : goal.shape_of-lower
-shape_of-lower c = c.before.before.before.before.before.before.preview-r.auto.1.1.1.0
+shape_of-lower c = c.preview-r.auto.1.1.1.0
 
 pub preview-r-requires : goal.preview-r-requires
 preview-r-requires c = tt

@@ -4,12 +4,12 @@ use Rattle.vmx.proofs.ten.vmx_decode_plane10.Goals as goal
 
 pub returns : goal.returns
 returns c =
-    let v = c.before.before.before.before.before in
+    let v = c in
     handed_out _ (c.read_out.ensures _) v.decode_plane-r.ensures
 
 -- the call changed no length
 pub shape_of-rows : goal.shape_of-rows
-shape_of-rows c = c.before.before.before.before.before.decode_plane-r.auto.0
+shape_of-rows c = c.decode_plane-r.auto.0
 
 pub decode_plane-r-requires : goal.decode_plane-r-requires
 decode_plane-r-requires c = tt

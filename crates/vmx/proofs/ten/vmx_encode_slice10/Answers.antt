@@ -4,15 +4,15 @@ use Rattle.vmx.proofs.ten.vmx_encode_slice10.Goals as goal
 
 pub returns : goal.returns
 returns c =
-    let v = c.before.before.before.before.before.before.before in
+    let v = c in
     handed_out _ (c.coded_out.ensures _ _) v.encode_slice-r.ensures
 
 -- the call changed no length
 pub shape_of-dc : goal.shape_of-dc
-shape_of-dc c = c.before.before.before.before.before.before.before.encode_slice-r.auto.1.1.1.1.1.1.0
+shape_of-dc c = c.encode_slice-r.auto.1.1.1.1.1.1.0
 
 pub shape_of-ac : goal.shape_of-ac
-shape_of-ac c = c.before.before.before.before.before.before.before.encode_slice-r.auto.1.1.1.1.1.1.1.0
+shape_of-ac c = c.encode_slice-r.auto.1.1.1.1.1.1.1.0
 
 pub encode_slice-r-requires : goal.encode_slice-r-requires
 encode_slice-r-requires c = tt
