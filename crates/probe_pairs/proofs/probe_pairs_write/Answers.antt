@@ -31,8 +31,8 @@ put_run_value-a-requires c =
     let e = c in
     let l = e in
     let s = l in
-    let k = pair_of e in
-    let f : Fits l.loop-i.a s.args.out.now = pair_fits s.args.at (length s.args.runs.now) l.loop-i.i _ (length s.args.out.now) (roomy l).0 (roomy l).1 e.loop-i-test.true l.loop-i.invariant.3 in
+    let k = pair_of (goal.at.put_run_value-a-requires c).Else-not-taken in
+    let f : Fits l.loop-i.a s.args.out.now = pair_fits s.args.at (length s.args.runs.now) l.loop-i.i _ (length s.args.out.now) (roomy (goal.at.put_run_value-a-requires c).At-loop-i).0 (roomy (goal.at.put_run_value-a-requires c).At-loop-i).1 e.loop-i-test.true l.loop-i.invariant.3 in
     (k.0, k.1, k.2, room_of_lem l.loop-i.a _ l.loop-i.out (l.loop-i.invariant.2, rw l.loop-i.invariant.1 f) (both_long _ _ k.0 k.1 k.2))
 
 pub loop-i-preserved : goal.loop-i-preserved
@@ -41,7 +41,7 @@ loop-i-preserved c =
     let e = w in
     let l = e in
     let s = l in
-    let k = pair_of e in
+    let k = pair_of (goal.at.loop-i-preserved c).Else-not-taken in
     let g : Grown l.loop-i.a w.put_run_value-a.result = grown_of l.loop-i.a w.put_run_value-a.result _ (both_long _ _ k.0 k.1 k.2) w.put_run_value-a.ensures in
     (omega (arith, e.loop-i-test.true), search rules, (w.put_run_value-a.ensures.few, w.put_run_value-a.ensures.low), omega (arith, g, l.loop-i.invariant.3))
 
@@ -49,4 +49,4 @@ pub align-r-requires : goal.align-r-requires
 align-r-requires c =
     let l = c in
     let s = l in
-    end_fits s.args.at (length s.args.runs.now) l.loop-i.i (length s.args.out.now) l.loop-i.a l.loop-i.out (roomy l).0 (roomy l).1 l.loop-i.invariant.0 l.loop-i.invariant.3 l.loop-i.invariant.2 (sym l.loop-i.invariant.1)
+    end_fits s.args.at (length s.args.runs.now) l.loop-i.i (length s.args.out.now) l.loop-i.a l.loop-i.out (roomy (goal.at.align-r-requires c).At-loop-i).0 (roomy (goal.at.align-r-requires c).At-loop-i).1 l.loop-i.invariant.0 l.loop-i.invariant.3 l.loop-i.invariant.2 (sym l.loop-i.invariant.1)

@@ -13,8 +13,8 @@ returns c =
     let s = d in
     let a = s.args in
     let e1 = d.add1.ensures ∙ ap (λ (x : ℤ). add_of x (pos 4)) (to_z-of_z s.ranges.d) in
-    let e2 = h.sra16.ensures ∙ ap (λ (x : ℤ). sra_of x 3) (to_z-of_z (sfits_of d.add1.type_inv) ∙ e1) in
-    let e3 = v.add1-v.ensures ∙ ap₂ add_of (to_z-of_z (sfits_of h.sra16.type_inv) ∙ e2) (to_z-of_z s.ranges.level) in
-    let e4 : to_z w16 (of_z w16 v.add1-v.result) ≡ v.add1-v.result = to_z-of_z (sfits_of v.add1-v.type_inv) in
+    let e2 = h.sra16.ensures ∙ ap (λ (x : ℤ). sra_of x 3) (to_z-of_z {w = w16} (sfits_of d.add1.type_inv) ∙ e1) in
+    let e3 = v.add1-v.ensures ∙ ap₂ add_of (to_z-of_z {w = w16} (sfits_of h.sra16.type_inv) ∙ e2) (to_z-of_z s.ranges.level) in
+    let e4 : to_z w16 (of_z w16 v.add1-v.result) ≡ v.add1-v.result = to_z-of_z {w = w16} (sfits_of v.add1-v.type_inv) in
     ap (λ (x : ℕ). x % 256) (c.bits16.ensures ∙ ap (of_z w16) e4) ∙ mod8_bits v.add1-v.result (sfits_of v.add1-v.type_inv)
     ∙ ap (λ (x : ℤ). mod_z x 256) e3

@@ -1,5 +1,6 @@
 -- `blockread::eight::next_block`: the AC places, then the DC.
-use Rattle.std.proofs.Common.{ℤ, refl, ⊎_elim, arith}
+use mir.Syntax.{w16}
+use Rattle.std.proofs.Common.{ℤ, refl, arith}
 use borrow.Author.Rules.{sfits_of}
 use Rattle.scalar.specs.Scalar.{add_of}
 use Rattle.scalar.proofs.Laws.{lane2}
@@ -10,7 +11,7 @@ use Rattle.blockread.proofs.Good.{first_steps, first_places}
 use Rattle.blockread.proofs.Flat.{all_zeros}
 use Rattle.acread.specs.through.Codes.{step_of}
 use Rattle.blockread.proofs.eight.next_block.Goals as goal
-use Rattle.blockread.proofs.eight.next_block.Goals.{Joined-s-lt64}
+use Rattle.blockread.proofs.eight.next_block.Goals.{Joined-s-lt64, then-s-lt64, else-s-lt64}
 
 pub read_block-g-requires : goal.read_block-g-requires
 read_block-g-requires c =
@@ -23,16 +24,16 @@ placed : (j : Joined-s-lt64) → let a = j.args in Placed a.ac.now a.s.ac a.s.pe
 placed j =
     let s = j in
     let a = s.args in
-    ⊎_elim
-    (λ w. rw (w.3, w.4) w.2.ensures)
-    (λ w. rw (w.2, w.3) (all_zeros a.ac.now a.s.ac a.s.pending w.0.left s.requires.0.few))
-    j.if-s-lt64.branch
+    elim j.if-s-lt64.branch [
+      | then-s-lt64 w ↦ rw (w.g-is, w.nat-is) w.read_block-g.ensures
+      | else-s-lt64 w ↦ rw (w.g-is, w.nat-is) (all_zeros a.ac.now a.s.ac a.s.pending w.if-s-lt64.false s.requires.0.few)
+    ]
 
 pub overflow_sub-result : goal.overflow_sub-result
 overflow_sub-result c =
     let j = c in
     let a = j.args in
-    places_up a.ac.now a.s.ac a.s.pending (placed j).answer
+    places_up a.ac.now a.s.ac a.s.pending (placed (goal.at.overflow_sub-result c).Joined-s-lt64).answer
 
 pub returns : goal.returns
 returns c =
@@ -43,8 +44,8 @@ returns c =
     let s = j in
     let a = s.args in
     let h = n.next_dc-h.result in
-    block_next a.shift a.dc.now a.ac.now a.s j.if-s-lt64.g j.if-s-lt64.nat h (placed j) n.next_dc-h.ensures
+    block_next a.shift a.dc.now a.ac.now a.s j.if-s-lt64.g j.if-s-lt64.nat h (placed (goal.at.returns c).Joined-s-lt64) n.next_dc-h.ensures
     (first_steps a.shift 0 a.dc.now a.ac.now a.s s.requires.6)
     (fits_back {z = u.settled-last.result} (sfits_of u.settled-last.type_inv))
-    (lane2 (λ (x y : ℤ). add_of (settle a.shift (step_of h.run h.num) x) y) (sfits_of v.settled-arg-1.given) s.requires.0.fits (sfits_of u.settled-last.type_inv) u.settled-last.ensures)
+    (lane2 {v = w16} (λ (x y : ℤ). add_of (settle a.shift (step_of h.run h.num) x) y) (sfits_of v.settled-arg-1.given) s.requires.0.fits (sfits_of u.settled-last.type_inv) u.settled-last.ensures)
     refl
