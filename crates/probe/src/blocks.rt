@@ -6,13 +6,7 @@ ghost use Rattle.ask.specs.Limits.{stride_max};
 use crate::arrays::{block, put_block};
 
 // Forward transform, quantiser and scan of a row of 8-bit blocks.
-#[unsafe(no_mangle)]
-pub extern "C" fn probe_blocks_forward8(
-    rows: &[u8],
-    stride: usize,
-    preset: usize,
-    out: &mut [i16],
-) {
+pub fn probe_blocks_forward8(rows: &[u8], stride: usize, preset: usize, out: &mut [i16]) {
     if ask::limits::PRESET_MAX < preset {
         return;
     }
@@ -33,13 +27,7 @@ pub extern "C" fn probe_blocks_forward8(
 }
 
 // The same of 10-bit blocks.
-#[unsafe(no_mangle)]
-pub extern "C" fn probe_blocks_forward16(
-    rows: &[u16],
-    stride: usize,
-    preset: usize,
-    out: &mut [i16],
-) {
+pub fn probe_blocks_forward16(rows: &[u16], stride: usize, preset: usize, out: &mut [i16]) {
     if ask::limits::PRESET_MAX < preset {
         return;
     }
@@ -69,13 +57,7 @@ fn put8(rows: &mut [u8], c: usize, stride: usize, v: [i16; 64], level: i16)
 }
 
 // Dequantising, inverse transform and store of one block of coefficients over a row of 8-bit blocks.
-#[unsafe(no_mangle)]
-pub extern "C" fn probe_blocks_inverse8(
-    nat: &[i16],
-    preset: usize,
-    rows: &mut [u8],
-    stride: usize,
-) {
+pub fn probe_blocks_inverse8(nat: &[i16], preset: usize, rows: &mut [u8], stride: usize) {
     if ask::limits::PRESET_MAX < preset {
         return;
     }
@@ -102,13 +84,7 @@ fn put16(rows: &mut [u16], c: usize, stride: usize, v: [i16; 64], level: i16)
 }
 
 // The same for 10-bit samples.
-#[unsafe(no_mangle)]
-pub extern "C" fn probe_blocks_inverse16(
-    nat: &[i16],
-    preset: usize,
-    rows: &mut [u16],
-    stride: usize,
-) {
+pub fn probe_blocks_inverse16(nat: &[i16], preset: usize, rows: &mut [u16], stride: usize) {
     if ask::limits::PRESET_MAX < preset {
         return;
     }

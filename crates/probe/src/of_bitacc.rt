@@ -67,8 +67,7 @@ fn end(a: BitAcc, out: &mut [u8]) -> usize
 
 // Codes in a row from the byte `at` on, then zero bits up to a byte: a value, a run, or both, for each kind 0, 1, 2.
 // The end; a code that the writer does not take, or for which fewer than 16 bytes are left, is passed over.
-#[unsafe(no_mangle)]
-pub extern "C" fn probe_bitacc_write(
+pub fn probe_bitacc_write(
     kinds: &[u8],
     runs: &[u32],
     codes: &[u32],

@@ -15,14 +15,7 @@ fn forward(b: [i16; 64], add: i16, ten: bool, k: &[u16; 192]) -> [i16; 64]
 }
 
 // Forward transform, quantiser and scan of a block (fdct_quant_zig).
-#[unsafe(no_mangle)]
-pub extern "C" fn probe_dct_forward(
-    rows: &[i16],
-    add: i16,
-    ten: bool,
-    preset: usize,
-    out: &mut [i16],
-) {
+pub fn probe_dct_forward(rows: &[i16], add: i16, ten: bool, preset: usize, out: &mut [i16]) {
     if ask::limits::PRESET_MAX < preset {
         return;
     }
@@ -32,14 +25,7 @@ pub extern "C" fn probe_dct_forward(
 }
 
 // Dequantising and inverse transform of a block into 8-bit samples from the corner of the rows on (idct8).
-#[unsafe(no_mangle)]
-pub extern "C" fn probe_dct_inverse8(
-    nat: &[i16],
-    preset: usize,
-    level: i16,
-    rows: &mut [u8],
-    stride: usize,
-) {
+pub fn probe_dct_inverse8(nat: &[i16], preset: usize, level: i16, rows: &mut [u8], stride: usize) {
     if ask::limits::PRESET_MAX < preset {
         return;
     }
@@ -58,8 +44,7 @@ pub extern "C" fn probe_dct_inverse8(
 }
 
 // The same for 10-bit samples (idct16).
-#[unsafe(no_mangle)]
-pub extern "C" fn probe_dct_inverse16(
+pub fn probe_dct_inverse16(
     nat: &[i16],
     preset: usize,
     level: i16,
@@ -84,8 +69,7 @@ pub extern "C" fn probe_dct_inverse16(
 }
 
 // A flat block from the corner of the rows on (broadcast_dc8).
-#[unsafe(no_mangle)]
-pub extern "C" fn probe_dct_flat(dc: i16, level: i16, rows: &mut [u8], stride: usize) {
+pub fn probe_dct_flat(dc: i16, level: i16, rows: &mut [u8], stride: usize) {
     if stride < 8 {
         return;
     }

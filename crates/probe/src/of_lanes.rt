@@ -36,8 +36,7 @@ fn two32(op: u32, a: [i32; 4], b: [i32; 4], n: u8) -> [i32; 4] {
 }
 
 // Two rows to one.
-#[unsafe(no_mangle)]
-pub extern "C" fn probe_lanes_two(op: u32, a: &[i16], b: &[i16], out: &mut [i16]) {
+pub fn probe_lanes_two(op: u32, a: &[i16], b: &[i16], out: &mut [i16]) {
     let x = row(a);
     let y = row(b);
     let r = two(op, x, y);
@@ -45,60 +44,52 @@ pub extern "C" fn probe_lanes_two(op: u32, a: &[i16], b: &[i16], out: &mut [i16]
 }
 
 // One row and a number to a row.
-#[unsafe(no_mangle)]
-pub extern "C" fn probe_lanes_one(op: u32, a: &[i16], n: u8, out: &mut [i16]) {
+pub fn probe_lanes_one(op: u32, a: &[i16], n: u8, out: &mut [i16]) {
     let x = row(a);
     let r = one(op, x, n);
     put_row(out, r);
 }
 
 // Two wide rows and a number to a wide row.
-#[unsafe(no_mangle)]
-pub extern "C" fn probe_lanes_two32(op: u32, a: &[i32], b: &[i32], n: u8, out: &mut [i32]) {
+pub fn probe_lanes_two32(op: u32, a: &[i32], b: &[i32], n: u8, out: &mut [i32]) {
     let x = wide(a);
     let y = wide(b);
     let r = two32(op, x, y, n);
     put_wide(out, r);
 }
 
-#[unsafe(no_mangle)]
-pub extern "C" fn probe_lanes_madd(a: &[i16], b: &[i16], out: &mut [i32]) {
+pub fn probe_lanes_madd(a: &[i16], b: &[i16], out: &mut [i32]) {
     let x = row(a);
     let y = row(b);
     let r = lanes::products::madd(x, y);
     put_wide(out, r);
 }
 
-#[unsafe(no_mangle)]
-pub extern "C" fn probe_lanes_packs32(a: &[i32], b: &[i32], out: &mut [i16]) {
+pub fn probe_lanes_packs32(a: &[i32], b: &[i32], out: &mut [i16]) {
     let x = wide(a);
     let y = wide(b);
     let r = lanes::packs::packs32(x, y);
     put_row(out, r);
 }
 
-#[unsafe(no_mangle)]
-pub extern "C" fn probe_lanes_splat(v: i16, out: &mut [i16]) {
+pub fn probe_lanes_splat(v: i16, out: &mut [i16]) {
     let r = lanes::splat(v);
     put_row(out, r);
 }
 
-#[unsafe(no_mangle)]
-pub extern "C" fn probe_lanes_splat32(v: i32, out: &mut [i32]) {
+pub fn probe_lanes_splat32(v: i32, out: &mut [i32]) {
     let r = lanes::splat32(v);
     put_wide(out, r);
 }
 
-#[unsafe(no_mangle)]
-pub extern "C" fn probe_lanes_load_u(t: &[u16], out: &mut [i16]) {
+pub fn probe_lanes_load_u(t: &[u16], out: &mut [i16]) {
     let x = numbers(t);
     let r = lanes::load_u(x);
     put_row(out, r);
 }
 
 // Byte k of a row's eight.
-#[unsafe(no_mangle)]
-pub extern "C" fn probe_lanes_packus8(a: &[i16], k: usize) -> u8 {
+pub fn probe_lanes_packus8(a: &[i16], k: usize) -> u8 {
     let x = row(a);
     let r = lanes::packs::packus8(x);
     if k < 8 { r[k] } else { 0 }

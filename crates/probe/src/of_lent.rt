@@ -90,8 +90,7 @@ fn end(a: BitAcc, out: &mut [u8]) -> usize
 
 // Codes in a row from the byte `at` on, then zero bits up to a byte: a value for kind 0, a run and a value for any other.
 // The end; a code that the writer does not take, or for which fewer than 16 bytes are left, is passed over.
-#[unsafe(no_mangle)]
-pub extern "C" fn probe_lent_write(
+pub fn probe_lent_write(
     kinds: &[u8],
     runs: &[u32],
     codes: &[u32],

@@ -21,8 +21,7 @@ fn copied16(part: &[u16], out: &mut [u16]) -> usize {
 }
 
 // The DC or the AC stream of a slice, and the number of the answer.
-#[unsafe(no_mangle)]
-pub extern "C" fn probe_parts_stream(
+pub fn probe_parts_stream(
     width: usize,
     height: usize,
     frame: &[u8],
@@ -37,8 +36,7 @@ pub extern "C" fn probe_parts_stream(
 }
 
 // A slice's shown rows of 8-bit samples, and the number of the answer.
-#[unsafe(no_mangle)]
-pub extern "C" fn probe_parts_rows8<'a>(
+pub fn probe_parts_rows8<'a>(
     new: &'a [u8],
     held: &'a [u8],
     stride: usize,
@@ -52,8 +50,7 @@ pub extern "C" fn probe_parts_rows8<'a>(
 }
 
 // The same of 10-bit samples.
-#[unsafe(no_mangle)]
-pub extern "C" fn probe_parts_rows10<'a>(
+pub fn probe_parts_rows10<'a>(
     new: &'a [u16],
     held: &'a [u16],
     stride: usize,

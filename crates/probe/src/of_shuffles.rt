@@ -11,31 +11,27 @@ fn shuffled(op: u32, a: [i16; 8], imm: u8) -> [i16; 8] {
 }
 
 // A row shuffled by a pattern.
-#[unsafe(no_mangle)]
-pub extern "C" fn probe_shuffles_row(op: u32, a: &[i16], imm: u8, out: &mut [i16]) {
+pub fn probe_shuffles_row(op: u32, a: &[i16], imm: u8, out: &mut [i16]) {
     let x = row(a);
     let r = shuffled(op, x, imm);
     put_row(out, r);
 }
 
 // A wide row shuffled by a pattern.
-#[unsafe(no_mangle)]
-pub extern "C" fn probe_shuffles_wide(a: &[i32], imm: u8, out: &mut [i32]) {
+pub fn probe_shuffles_wide(a: &[i32], imm: u8, out: &mut [i32]) {
     let x = wide(a);
     let r = shuffles::shuffle32(x, imm);
     put_wide(out, r);
 }
 
-#[unsafe(no_mangle)]
-pub extern "C" fn probe_shuffles_unpacklo32(a: &[i16], b: &[i16], out: &mut [i16]) {
+pub fn probe_shuffles_unpacklo32(a: &[i16], b: &[i16], out: &mut [i16]) {
     let x = row(a);
     let y = row(b);
     let r = shuffles::unpacklo32(x, y);
     put_row(out, r);
 }
 
-#[unsafe(no_mangle)]
-pub extern "C" fn probe_shuffles_nonzero_mask(zz: &[i16]) -> u64 {
+pub fn probe_shuffles_nonzero_mask(zz: &[i16]) -> u64 {
     let z = block(zz);
     shuffles::nonzero_mask(z)
 }

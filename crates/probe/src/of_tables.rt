@@ -1,8 +1,7 @@
 // The quantiser numbers and the scan (crate tables).
 
 // Number i of a preset's 192: the corrections, the reciprocals, the scales of its 64 places (`encode` of QuantTables).
-#[unsafe(no_mangle)]
-pub extern "C" fn probe_tables_encode(preset: usize, i: usize) -> u16 {
+pub fn probe_tables_encode(preset: usize, i: usize) -> u16 {
     if ask::limits::PRESET_MAX < preset {
         return 0;
     }
@@ -11,8 +10,7 @@ pub extern "C" fn probe_tables_encode(preset: usize, i: usize) -> u16 {
 }
 
 // A preset's divisor at place i (`decode` of QuantTables).
-#[unsafe(no_mangle)]
-pub extern "C" fn probe_tables_decode(preset: usize, i: usize) -> u16 {
+pub fn probe_tables_decode(preset: usize, i: usize) -> u16 {
     if ask::limits::PRESET_MAX < preset {
         return 0;
     }
@@ -21,8 +19,7 @@ pub extern "C" fn probe_tables_decode(preset: usize, i: usize) -> u16 {
 }
 
 // The natural place of scan place i.
-#[unsafe(no_mangle)]
-pub extern "C" fn probe_tables_zigzag(i: usize) -> u8 {
+pub fn probe_tables_zigzag(i: usize) -> u8 {
     let z = tables::zigzag_order();
     if i < 64 { z[i] } else { 255 }
 }

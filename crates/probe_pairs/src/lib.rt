@@ -21,13 +21,7 @@ pub fn taken(n: u32, c: u32) -> bool
 
 // Pairs from the byte `at` on, then zero bits up to a byte. Room is asked for once, eight bytes a pair. The end, or 0
 // where there is less, or at a pair that the writer does not take.
-#[unsafe(no_mangle)]
-pub extern "C" fn probe_pairs_write(
-    runs: &[u32],
-    codes: &[u32],
-    at: usize,
-    out: &mut [u8],
-) -> usize {
+pub fn probe_pairs_write(runs: &[u32], codes: &[u32], at: usize, out: &mut [u8]) -> usize {
     if codes.len() < runs.len() {
         return 0;
     }

@@ -1,7 +1,10 @@
 // What the parts of the program replays share (oracle/ANSWERS.md): numbers out of a record, counts, the report.
 #![tactic(auto)]
 
-ghost use Rattle.std.specs.Prelude.{◌<◌};
+ghost use Rattle.std.specs.Prelude.{◌<◌, ◌≤◌, length, IfOk};
+
+use std::io;
+use std::io::Read;
 
 // The length of the longest record.
 pub const LONGEST: usize = 1120;
@@ -301,12 +304,24 @@ pub fn count(counts: &mut [u64; 2], equal: bool) {
     }
 }
 
+// Reads until the buffer is full or the file ends: how many bytes are at the buffer's start.
+pub fn read_full(file: &mut impl Read, buf: &mut [u8]) -> io::Result<usize>
+    ensures { IfOk result (λ n. n ≤ length buf.old) }
+{
+    let mut done = 0;
+    while done < buf.len() {
+        let n = file.read(&mut buf[done..])?;
+        if n == 0 {
+            break;
+        }
+        done += n;
+    }
+    Ok(done)
+}
+
 // Writes a part's name and both counts.
-pub fn say(name: &[u8], counts: &[u64; 2]) {
-    io::write_all(1, name);
-    io::write_all(1, b": ");
-    io::print_decimal(1, counts[0]);
-    io::write_all(1, b" equal, ");
-    io::print_decimal(1, counts[1]);
-    io::write_all(1, b" different\n");
+pub fn say(rt: &impl Print, name: &str, counts: &[u64; 2]) -> io::Result<()> {
+    let equal = counts[0];
+    let different = counts[1];
+    println!(rt; "{name}: {equal} equal, {different} different")
 }

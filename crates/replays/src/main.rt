@@ -16,6 +16,10 @@ mod pictures;
 mod reads;
 
 use replay::Record;
+use std::fs::File;
+use std::io;
+use std::io::Read;
+use std::rt::Files;
 
 #[derive(Clone, Copy)]
 enum Part {
@@ -67,57 +71,57 @@ fn holds(p: Part, b: &Record) -> bool {
 }
 
 // Reads and compares one record; false where there is none. One that is cut off counts as different.
-fn turn(p: Part, file: i32, counts: &mut [u64; 2]) -> bool {
+fn turn(p: Part, file: &mut impl Read, counts: &mut [u64; 2]) -> io::Result<bool> {
     let mut b = [0u8; replay::LONGEST];
     let length = length_of(p);
-    let n = io::read_full(file, replay::cut(&mut b, length));
+    let n = replay::read_full(file, replay::cut(&mut b, length))?;
     if n == 0 {
-        return false;
+        return Ok(false);
     }
     let whole = n == length;
     replay::count(counts, whole && holds(p, &b));
-    true
+    Ok(true)
 }
 
-// A proved loop has to end, and nothing says that a file does: so the turns are counted down, from a number that no run uses up.
-fn all(p: Part, file: i32, counts: &mut [u64; 2]) {
-    let mut turns = 1000000u64;
-    while turns > 0 && turn(p, file, counts) {
-        turns -= 1;
+// A proved loop has to end, and nothing says that a file does: so the turns are counted, up to a number that no run uses up.
+fn all(p: Part, file: &mut impl Read, counts: &mut [u64; 2]) -> io::Result<()> {
+    for _ in 0..1000000 {
+        if !turn(p, file, counts)? {
+            break;
+        }
     }
+    Ok(())
 }
 
 // A part, whose file has its name. Where there is no such file, nothing is equal.
-fn replayed(p: Part, name: &[u8]) {
+fn replayed(rt: &(impl Files + Print), p: Part, name: &str) -> io::Result<()> {
     let mut counts = [0u64; 2];
-    let file = os::open_read(name);
-    if 0 <= file {
-        all(p, file, &mut counts);
-        libc::close(file);
+    if let Ok(mut file) = File::open(rt, name) {
+        all(p, &mut file, &mut counts)?;
     }
-    replay::say(name, &counts);
+    replay::say(rt, name, &counts)
 }
 
 // The functions that the probes open.
-fn inner() {
-    replayed(Part::Bits, b"bits");
-    replayed(Part::Dct, b"dct");
-    replayed(Part::Lanes, b"lanes");
-    replayed(Part::Tables, b"tables");
+fn inner(rt: &(impl Files + Print)) -> io::Result<()> {
+    replayed(rt, Part::Bits, "bits")?;
+    replayed(rt, Part::Dct, "dct")?;
+    replayed(rt, Part::Lanes, "lanes")?;
+    replayed(rt, Part::Tables, "tables")
 }
 
 // The calls on frames, planes and slices.
-fn calls() {
-    replayed(Part::Built, b"built");
-    replayed(Part::Frames, b"frames");
-    replayed(Part::Layouts, b"layouts");
-    replayed(Part::Limits, b"limits");
-    replayed(Part::Planes, b"planes");
-    replayed(Part::Reads, b"reads");
-    replayed(Part::Shown, b"shown");
+fn calls(rt: &(impl Files + Print)) -> io::Result<()> {
+    replayed(rt, Part::Built, "built")?;
+    replayed(rt, Part::Frames, "frames")?;
+    replayed(rt, Part::Layouts, "layouts")?;
+    replayed(rt, Part::Limits, "limits")?;
+    replayed(rt, Part::Planes, "planes")?;
+    replayed(rt, Part::Reads, "reads")?;
+    replayed(rt, Part::Shown, "shown")
 }
 
-fn main() {
-    inner();
-    calls();
+fn main(rt: HostRuntime) -> io::Result<()> {
+    inner(&rt)?;
+    calls(&rt)
 }

@@ -20,8 +20,7 @@ use builder::{Builder, Shift};
 use layout::Layout;
 
 // The geometry of a frame size: strides in samples, stream limits in bytes.
-#[unsafe(no_mangle)]
-pub extern "C" fn vmx_layout(
+pub fn vmx_layout(
     width: usize,
     height: usize,
     aligned_height: &mut usize,
@@ -51,8 +50,7 @@ pub extern "C" fn vmx_layout(
 }
 
 // Whether a frame of this size is interlaced when it says so: 1 or 0.
-#[unsafe(no_mangle)]
-pub extern "C" fn vmx_interlace_capable(width: usize, height: usize, capable: &mut u32) -> u32
+pub fn vmx_interlace_capable(width: usize, height: usize, capable: &mut u32) -> u32
     ensures { handed result capable.new ≡ handed_by (interlace_capable_of width height) flag_of capable.old }
 {
     let x = layout::size_number(width, height);
@@ -64,8 +62,7 @@ pub extern "C" fn vmx_interlace_capable(width: usize, height: usize, capable: &m
 }
 
 // Whether a coded row is a row of the image (1) or padding (0), and which one; of padding nothing is said.
-#[unsafe(no_mangle)]
-pub extern "C" fn vmx_image_row(
+pub fn vmx_image_row(
     width: usize,
     height: usize,
     r: usize,
@@ -87,8 +84,7 @@ pub extern "C" fn vmx_image_row(
 }
 
 // The width and the height of the 1/8 preview.
-#[unsafe(no_mangle)]
-pub extern "C" fn vmx_preview_size(
+pub fn vmx_preview_size(
     width: usize,
     height: usize,
     interlaced: u32,
@@ -109,16 +105,14 @@ pub extern "C" fn vmx_preview_size(
 }
 
 // The quality that is in force for a quality asked, and its preset.
-#[unsafe(no_mangle)]
-pub extern "C" fn vmx_quality_preset(quality: u8, kept: &mut u8, preset: &mut usize)
+pub fn vmx_quality_preset(quality: u8, kept: &mut u8, preset: &mut usize)
     ensures { (kept.new ≡ (quality_preset quality).quality) × (preset.new ≡ (quality_preset quality).index) }
 {
     outs::frame::quality_out(quality, kept, preset);
 }
 
 // What a frame's header says, after all questions about the frame.
-#[unsafe(no_mangle)]
-pub extern "C" fn vmx_parse(
+pub fn vmx_parse(
     width: usize,
     height: usize,
     frame: &[u8],
@@ -139,8 +133,7 @@ pub extern "C" fn vmx_parse(
 
 // The same, and where all streams of the frame lie: two numbers each, offset and length, the DC streams of all slices in
 // order, then the AC streams of all slices; 0 and 0 for each AC stream of a frame without.
-#[unsafe(no_mangle)]
-pub extern "C" fn vmx_streams(
+pub fn vmx_streams(
     width: usize,
     height: usize,
     frame: &[u8],
@@ -161,8 +154,7 @@ pub extern "C" fn vmx_streams(
 }
 
 // Where the DC stream (ac 0) or the AC stream (any other) of a slice lies in the frame, and its length.
-#[unsafe(no_mangle)]
-pub extern "C" fn vmx_stream(
+pub fn vmx_stream(
     width: usize,
     height: usize,
     frame: &[u8],
@@ -180,8 +172,7 @@ pub extern "C" fn vmx_stream(
 }
 
 // Writes a frame's header at `at`, and hands out the state in which the first DC stream has its turn.
-#[unsafe(no_mangle)]
-pub extern "C" fn vmx_frame_start(
+pub fn vmx_frame_start(
     width: usize,
     height: usize,
     interlaced: u32,
@@ -211,8 +202,7 @@ pub extern "C" fn vmx_frame_start(
 }
 
 // Puts the DC stream (ac 0) or the AC stream (any other) of a slice after what was written.
-#[unsafe(no_mangle)]
-pub extern "C" fn vmx_frame_put(
+pub fn vmx_frame_put(
     width: usize,
     height: usize,
     ac: u32,
@@ -240,8 +230,7 @@ pub extern "C" fn vmx_frame_put(
 
 // Whether the frame is complete (1) or not (0), by whose turn it is: all DC streams are there, and the AC streams of all
 // slices or of none.
-#[unsafe(no_mangle)]
-pub extern "C" fn vmx_frame_complete(
+pub fn vmx_frame_complete(
     width: usize,
     height: usize,
     ac_turn: u32,
@@ -256,8 +245,7 @@ pub extern "C" fn vmx_frame_complete(
 }
 
 // In which of two pictures of so many samples the slice's sixteen rows lie (1 the new one, 0 the held one), and where.
-#[unsafe(no_mangle)]
-pub extern "C" fn vmx_shown_rows(
+pub fn vmx_shown_rows(
     new: usize,
     held: usize,
     stride: usize,
@@ -284,8 +272,7 @@ pub extern "C" fn vmx_shown_rows(
 }
 
 // The time that is shown: the new one if the slice was accepted, the held one if not.
-#[unsafe(no_mangle)]
-pub extern "C" fn vmx_shown_time(new: u64, held: u64, verdict: u32) -> u64
+pub fn vmx_shown_time(new: u64, held: u64, verdict: u32) -> u64
     ensures { result ≡ time_of verdict new held }
 {
     shown::shown_time(new, held, verdict)

@@ -10,8 +10,7 @@ ghost use Rattle.outs.specs.plane.Planes.{coded_as, decoded_as};
 use calls::{Four, Positions, Settings, Shape};
 
 // Codes a plane.
-#[unsafe(no_mangle)]
-pub extern "C" fn vmx_encode_plane8(
+pub fn vmx_encode_plane8(
     rows: &[u8],
     stride: usize,
     place: usize,
@@ -37,8 +36,7 @@ pub extern "C" fn vmx_encode_plane8(
 }
 
 // Codes the first `count` of four planes, places 0 to 3, one after the other.
-#[unsafe(no_mangle)]
-pub extern "C" fn vmx_encode_slice8(
+pub fn vmx_encode_slice8(
     p0: &[u8],
     stride0: usize,
     p1: &[u8],
@@ -74,8 +72,7 @@ pub extern "C" fn vmx_encode_slice8(
 }
 
 // Reads a plane into its rows.
-#[unsafe(no_mangle)]
-pub extern "C" fn vmx_decode_plane8(
+pub fn vmx_decode_plane8(
     rows: &mut [u8],
     stride: usize,
     place: usize,
@@ -101,8 +98,7 @@ pub extern "C" fn vmx_decode_plane8(
 }
 
 // Reads the first `count` of four planes, places 0 to 3, one after the other.
-#[unsafe(no_mangle)]
-pub extern "C" fn vmx_decode_slice8(
+pub fn vmx_decode_slice8(
     p0: &mut [u8],
     stride0: usize,
     p1: &mut [u8],

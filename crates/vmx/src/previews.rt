@@ -9,8 +9,7 @@ ghost use Rattle.outs.specs.plane.Planes.{previewed_as, reported_as};
 use calls::Shape;
 
 // One byte a block, two output rows, from the plane's DC stream.
-#[unsafe(no_mangle)]
-pub extern "C" fn vmx_preview(
+pub fn vmx_preview(
     shift: u32,
     place: usize,
     stride: usize,
@@ -29,13 +28,7 @@ pub extern "C" fn vmx_preview(
 }
 
 // One byte a block in coding order, 1 where no AC symbol is read for it, from the plane's AC stream.
-#[unsafe(no_mangle)]
-pub extern "C" fn vmx_block_report(
-    stride: usize,
-    report: &mut [u8],
-    ac: &[u8],
-    ac_at: &mut usize,
-) -> u32
+pub fn vmx_block_report(stride: usize, report: &mut [u8], ac: &[u8], ac_at: &mut usize) -> u32
     ensures { reported_as result ac_at.new report.new
         ≡ block_report stride report.old ac.now ac_at.old }
 {

@@ -10,8 +10,7 @@ ghost use Rattle.outs.specs.frame.Outs.{handed, handed_by};
 use calls::Four;
 
 // Of one plane.
-#[unsafe(no_mangle)]
-pub extern "C" fn vmx_plane_size(stride: usize, dc_len: &mut usize, ac_len: &mut usize) -> u32
+pub fn vmx_plane_size(stride: usize, dc_len: &mut usize, ac_len: &mut usize) -> u32
     ensures { handed result (length_places dc_len.new ac_len.new)
         ≡ handed_by (plane_size stride) length_parts (length_places dc_len.old ac_len.old) }
 {
@@ -20,8 +19,7 @@ pub extern "C" fn vmx_plane_size(stride: usize, dc_len: &mut usize, ac_len: &mut
 }
 
 // Of the first `count` of four planes together.
-#[unsafe(no_mangle)]
-pub extern "C" fn vmx_slice_size(
+pub fn vmx_slice_size(
     count: usize,
     stride0: usize,
     stride1: usize,

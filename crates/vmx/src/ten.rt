@@ -10,8 +10,7 @@ ghost use Rattle.outs.specs.plane.Planes.{coded_as, decoded_as};
 use calls::{Four, Positions, Settings, Shape};
 
 // Codes a plane.
-#[unsafe(no_mangle)]
-pub extern "C" fn vmx_encode_plane10(
+pub fn vmx_encode_plane10(
     rows: &[u16],
     stride: usize,
     place: usize,
@@ -37,8 +36,7 @@ pub extern "C" fn vmx_encode_plane10(
 }
 
 // Codes the first `count` of four planes, places 0 to 3, one after the other.
-#[unsafe(no_mangle)]
-pub extern "C" fn vmx_encode_slice10(
+pub fn vmx_encode_slice10(
     p0: &[u16],
     stride0: usize,
     p1: &[u16],
@@ -74,8 +72,7 @@ pub extern "C" fn vmx_encode_slice10(
 }
 
 // Reads a plane into its rows.
-#[unsafe(no_mangle)]
-pub extern "C" fn vmx_decode_plane10(
+pub fn vmx_decode_plane10(
     rows: &mut [u16],
     stride: usize,
     place: usize,
@@ -101,8 +98,7 @@ pub extern "C" fn vmx_decode_plane10(
 }
 
 // Reads the first `count` of four planes, places 0 to 3, one after the other.
-#[unsafe(no_mangle)]
-pub extern "C" fn vmx_decode_slice10(
+pub fn vmx_decode_slice10(
     p0: &mut [u16],
     stride0: usize,
     p1: &mut [u16],

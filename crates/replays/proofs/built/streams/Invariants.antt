@@ -1,6 +1,4 @@
-use mathlib.Core.Path.{◌≡◌}
-use lib.ListN.{length}
-use Prim.Native.Nat.{◌-◌, ◌≤◌}
+use Rattle.std.proofs.Common.{◌≡◌, length, ◌-◌, ◌≤◌}
 use Rattle.replays.proofs.built.streams.Given as goal
 
 abbrev pub invariant-loop-k : goal.invariant-loop-k

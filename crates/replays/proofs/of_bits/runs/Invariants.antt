@@ -1,4 +1,4 @@
-use Prim.Native.Nat.{◌-◌, ◌≤◌}
+use Rattle.std.proofs.Common.{◌-◌, ◌≤◌}
 use Rattle.replays.proofs.of_bits.runs.Given as goal
 
 abbrev pub invariant-loop-k : goal.invariant-loop-k

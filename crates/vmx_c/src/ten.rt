@@ -1,0 +1,109 @@
+// The calls on 10-bit planes and slices: coded into both streams, read out of them.
+//
+// A call answers document 01's number, 0 where it is accepted. The positions are read from the places lent for them and left
+// there: after what was written or read, or as they were given. A refused call leaves buffers and rows as they were.
+ghost use Rattle.std.specs.Prelude.{◌≡◌, [], ◌∷◌};
+ghost use Rattle.calls.specs.Arguments.{ten, settings, plane, rows, buffers, positions};
+ghost use Rattle.slice.specs.Calls.{encode_plane, encode_slice, decode_plane, decode_slice};
+ghost use Rattle.outs.specs.plane.Planes.{coded_as, decoded_as};
+
+// Codes a plane.
+#[unsafe(no_mangle)]
+pub extern "C" fn vmx_encode_plane10(
+    rows: &[u16],
+    stride: usize,
+    place: usize,
+    preset: usize,
+    shift: u32,
+    dc: &mut [u8],
+    dc_at: &mut usize,
+    ac: &mut [u8],
+    ac_at: &mut usize,
+) -> u32
+    ensures { coded_as result dc_at.new ac_at.new dc.new ac.new
+        ≡ encode_plane (settings ten preset shift) (plane place stride rows.now)
+        (buffers dc.old ac.old) (positions dc_at.old ac_at.old) }
+{
+    vmx::ten::vmx_encode_plane10(rows, stride, place, preset, shift, dc, dc_at, ac, ac_at)
+}
+
+// Codes the first `count` of four planes, places 0 to 3, one after the other.
+#[unsafe(no_mangle)]
+pub extern "C" fn vmx_encode_slice10(
+    p0: &[u16],
+    stride0: usize,
+    p1: &[u16],
+    stride1: usize,
+    p2: &[u16],
+    stride2: usize,
+    p3: &[u16],
+    stride3: usize,
+    count: usize,
+    preset: usize,
+    shift: u32,
+    dc: &mut [u8],
+    dc_at: &mut usize,
+    ac: &mut [u8],
+    ac_at: &mut usize,
+) -> u32
+    ensures { coded_as result dc_at.new ac_at.new dc.new ac.new
+        ≡ encode_slice (settings ten preset shift) count
+        (rows stride0 p0.now) (rows stride1 p1.now) (rows stride2 p2.now) (rows stride3 p3.now)
+        (buffers dc.old ac.old) (positions dc_at.old ac_at.old) }
+{
+    vmx::ten::vmx_encode_slice10(
+        p0, stride0, p1, stride1, p2, stride2, p3, stride3, count, preset, shift, dc, dc_at, ac,
+        ac_at,
+    )
+}
+
+// Reads a plane into its rows.
+#[unsafe(no_mangle)]
+pub extern "C" fn vmx_decode_plane10(
+    rows: &mut [u16],
+    stride: usize,
+    place: usize,
+    preset: usize,
+    shift: u32,
+    dc: &[u8],
+    dc_at: &mut usize,
+    ac: &[u8],
+    ac_at: &mut usize,
+) -> u32
+    ensures { decoded_as result dc_at.new ac_at.new (rows.new ∷ [])
+        ≡ decode_plane (settings ten preset shift) (plane place stride rows.old)
+        (buffers dc.now ac.now) (positions dc_at.old ac_at.old) }
+{
+    vmx::ten::vmx_decode_plane10(rows, stride, place, preset, shift, dc, dc_at, ac, ac_at)
+}
+
+// Reads the first `count` of four planes, places 0 to 3, one after the other.
+#[unsafe(no_mangle)]
+pub extern "C" fn vmx_decode_slice10(
+    p0: &mut [u16],
+    stride0: usize,
+    p1: &mut [u16],
+    stride1: usize,
+    p2: &mut [u16],
+    stride2: usize,
+    p3: &mut [u16],
+    stride3: usize,
+    count: usize,
+    preset: usize,
+    shift: u32,
+    dc: &[u8],
+    dc_at: &mut usize,
+    ac: &[u8],
+    ac_at: &mut usize,
+) -> u32
+    ensures { decoded_as result dc_at.new ac_at.new
+        (p0.new ∷ p1.new ∷ p2.new ∷ p3.new ∷ [])
+        ≡ decode_slice (settings ten preset shift) count
+        (rows stride0 p0.old) (rows stride1 p1.old) (rows stride2 p2.old) (rows stride3 p3.old)
+        (buffers dc.now ac.now) (positions dc_at.old ac_at.old) }
+{
+    vmx::ten::vmx_decode_slice10(
+        p0, stride0, p1, stride1, p2, stride2, p3, stride3, count, preset, shift, dc, dc_at, ac,
+        ac_at,
+    )
+}
