@@ -1,3 +1,4 @@
+use mir.Syntax.{w16}
 use borrow.Author.Rules.{sfits_of}
 use mathlib.Core.Path.{refl}
 use Prim.Native.Nat.{◌+◌, ◌-◌, ◌/◌}
@@ -13,7 +14,7 @@ pub loop-k-preserved : goal.loop-k-preserved
 loop-k-preserved c =
     let l = c.before.before.before in
     let a = l.before.before.args in
-    filled_next 8 (λ i. pos (get_or a.rows.now (a.at + i) 0 / 64)) l.loop-k.x l.loop-k.k (omega arith) l.loop-k.invariant (lane0 (sfits_of c.lane16.type_inv) c.lane16.ensures)
+    filled_next 8 (λ i. pos (get_or a.rows.now (a.at + i) 0 / 64)) l.loop-k.x l.loop-k.k (omega arith) l.loop-k.invariant (lane0 {v = w16} (sfits_of c.lane16.type_inv) c.lane16.ensures)
 
 pub returns : goal.returns
 unfolding row16_of
