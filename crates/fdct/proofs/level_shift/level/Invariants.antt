@@ -3,8 +3,6 @@ use mathlib.Core.Path.{◌≡◌}
 use mathlib.Core.List.{List}
 use Prim.Native.Nat.{ℕ, ◌-◌, ◌*◌}
 use lib.IntN.{ℤ}
-use mir.Syntax.{w16}
-use mir.Val.{to_z}
 use Rattle.lanes.specs.Lanes.{mm_set1_epi16, mm_adds_epi16}
 use Rattle.lanes.specs.rows.Block.{row_of}
 use Rattle.lanes.proofs.rows.Loops.{RowsPut, TwoRows}
@@ -21,7 +19,7 @@ abbrev pub decreases-loop-h : goal.decreases-loop-h
 decreases-loop-h l = 2 - l.h
 
 abbrev pub invariant-loop-p : goal.invariant-loop-p
-invariant-loop-p l = RowsPut (levelled l.b l.adding) l.c (2 * l.p) × (l.adding ≡ mm_set1_epi16 (to_z w16 l.add))
+invariant-loop-p l = RowsPut (levelled l.b l.adding) l.c (2 * l.p) × (l.adding ≡ mm_set1_epi16 l.add)
 
 abbrev pub decreases-loop-p : goal.decreases-loop-p
 decreases-loop-p l = 4 - l.p

@@ -27,8 +27,8 @@ loop-i-preserved c =
     filled_next 64 (at level v) l.loop-i.p l.loop-i.i n.loop-i-test.true l.loop-i.invariant
     (c.packus1.ensures
     ∙ ap packus_of
-    (to_z-of_z (sfits_of m.max1.type_inv) ∙ m.max1.ensures
-    ∙ ap (λ (z : ℤ). max_of z (pos 0)) (to_z-of_z (sfits_of s.adds1.type_inv) ∙ s.adds1.ensures ∙ ap (λ (z : ℤ). adds_of z level) (to_z-of_z (sfits_of a.adds1-arg-1.given))))
+    (to_z-of_z {w = w16} (sfits_of m.max1.type_inv) ∙ m.max1.ensures
+    ∙ ap (λ (z : ℤ). max_of z (pos 0)) (to_z-of_z {w = w16} (sfits_of s.adds1.type_inv) ∙ s.adds1.ensures ∙ ap (λ (z : ℤ). adds_of z level) (to_z-of_z {w = w16} (sfits_of a.adds1-arg-1.given))))
     ∙ from_zero (adds_of (lane v l.loop-i.i) level))
 
 pub returns : goal.returns

@@ -2,8 +2,6 @@ use mathlib.Core.Bool.{false}
 use mathlib.Core.List.{List}
 use Prim.Native.Nat.{ℕ, ◌-◌}
 use lib.IntN.{ℤ}
-use mir.Syntax.{w16}
-use mir.Val.{to_z}
 use Rattle.scalar.specs.Scalar.{adds_of}
 use Rattle.scalar.proofs.Fill.{Filled}
 use Rattle.irow.specs.RowPass.{lane}
@@ -14,7 +12,7 @@ abbrev pub at : ℤ → List ℤ → ℕ → ℕ
 at level v i = sample_of false (adds_of (lane v i) level)
 
 abbrev pub invariant-loop-i : goal.invariant-loop-i
-invariant-loop-i l = Filled 64 (at (to_z w16 l.level) l.v) l.p l.i
+invariant-loop-i l = Filled 64 (at l.level l.v) l.p l.i
 
 abbrev pub decreases-loop-i : goal.decreases-loop-i
 decreases-loop-i l = 64 - l.i

@@ -24,7 +24,7 @@ loop-i-preserved c =
     let v = l.before.args.v in
     let level = back w16 l.before.args.level in
     filled_next 64 (at level v) l.loop-i.p l.loop-i.i n.loop-i-test.true l.loop-i.invariant
-    (c.sample.ensures ∙ ap ten_of (to_z-of_z (sfits_of s.adds1.type_inv) ∙ s.adds1.ensures ∙ ap (λ (z : ℤ). adds_of z level) (to_z-of_z (sfits_of a.adds1-arg-1.given))))
+    (c.sample.ensures ∙ ap ten_of (to_z-of_z {w = w16} (sfits_of s.adds1.type_inv) ∙ s.adds1.ensures ∙ ap (λ (z : ℤ). adds_of z level) (to_z-of_z {w = w16} (sfits_of a.adds1-arg-1.given))))
 
 pub returns : goal.returns
 returns c =
