@@ -28,13 +28,13 @@ returns-then-x-gt0 c =
 
 pub dc_good-requires : goal.dc_good-requires
 dc_good-requires c =
-    let k = legal c in
+    let k = legal (goal.at.dc_good-requires c).Else-x-gt0 in
     (omega (arith, k.start), omega (arith, k.wide))
 
 pub store_preview-end-requires : goal.store_preview-end-requires
 store_preview-end-requires c =
     let t = c in
-    let k = legal t in
+    let k = legal (goal.at.store_preview-end-requires c).Else-x-gt0 in
     (omega (arith, k.few), omega (arith, k.wide), k.above, k.below, k.start, sym t.dc_good.ensures ∙ t.if-dc_good.true)
 
 pub returns-then-dc_good : goal.returns-then-dc_good
@@ -42,10 +42,10 @@ returns-then-dc_good c =
     let p = c in
     let n = p in
     let a = n.args in
-    answer_end a.shift a.h.place a.h.stride a.upper.now a.lower.now a.dc.now a.at (none n) p.store_preview-end.ensures
+    answer_end a.shift a.h.place a.h.stride a.upper.now a.lower.now a.dc.now a.at (none (goal.at.returns-then-dc_good c).Else-x-gt0) p.store_preview-end.ensures
 
 pub returns : goal.returns
 returns c =
     let n = c in
     let a = n.args in
-    answer_bad a.shift a.h.place a.h.stride a.upper.now a.lower.now a.dc.now a.at (none n) (sym c.dc_good.ensures ∙ c.if-dc_good.false)
+    answer_bad a.shift a.h.place a.h.stride a.upper.now a.lower.now a.dc.now a.at (none (goal.at.returns c).Else-x-gt0) (sym c.dc_good.ensures ∙ c.if-dc_good.false)

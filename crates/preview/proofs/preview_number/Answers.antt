@@ -28,7 +28,7 @@ returns c =
     let a = r.args in
     λ upper lower e f.
     put (shift_ok a.shift) no_shift _ (c.or_else.ensures ∙ ap (λ (x : Bool). or_else x no_shift q3.or_else-from_3.result) h.shift_ok.ensures)
-    (put (place_ok a.h.place) no_plane _ (q3.or_else-from_3.ensures ∙ ap (λ (x : Bool). or_else x no_plane q4.or_else-from_4.result) p.Place-ok.ensures)
+    (put (place_ok a.h.place) no_plane _ (q3.or_else-from_3.ensures ∙ ap (λ (x : Bool). or_else x no_plane q4.or_else-from_4.result) p.place_ok.ensures)
     (put (stride_ok a.h.stride) no_stride _ (q4.or_else-from_4.ensures ∙ ap (λ (x : Bool). or_else x no_stride q5.or_else-from_5.result) w.stride_ok.ensures)
     (put _ no_rows _
     (q5.or_else-from_5.ensures ∙ ap (λ (x : Bool). or_else x no_rows q7.or_else-from_7.result)

@@ -36,7 +36,7 @@ store_report-end-requires c =
     let t = c in
     let n = t in
     let a = n.args in
-    let k = yes a.stride a.report.now (length a.ac.now) a.at (none n) in
+    let k = yes a.stride a.report.now (length a.ac.now) a.at (none (goal.at.store_report-end-requires c).Else-x-gt0) in
     (k.start, omega (arith, k.wide), omega (arith, k.room), sym t.ac_good.ensures ∙ t.if-ac_good.true)
 
 pub returns-then-ac_good : goal.returns-then-ac_good
@@ -44,11 +44,11 @@ returns-then-ac_good c =
     let p = c in
     let n = p in
     let a = n.args in
-    answer_end a.stride a.report.now a.ac.now a.at (none n) p.store_report-end.ensures.0 p.store_report-end.ensures.1
+    answer_end a.stride a.report.now a.ac.now a.at (none (goal.at.returns-then-ac_good c).Else-x-gt0) p.store_report-end.ensures.0 p.store_report-end.ensures.1
 
 pub returns : goal.returns
 returns c =
     let n = c in
     let a = n.args in
-    answer_bad a.stride a.report.now a.ac.now a.at (none n)
+    answer_bad a.stride a.report.now a.ac.now a.at (none (goal.at.returns c).Else-x-gt0)
     (not_good (read_blocks (2 * (a.stride / 8)) (bit_at a.ac.now) (8 * a.at) 0) (sym c.ac_good.ensures ∙ c.if-ac_good.false))

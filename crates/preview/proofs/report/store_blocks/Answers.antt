@@ -2,7 +2,6 @@
 use mathlib.Core.Path.{ap₂, ◌≡◌, refl, sym, ap, subst, ◌∙◌}
 use mathlib.Core.Bool.{true}
 use mathlib.Core.List.{List}
-use mathlib.Core.Logic.{⊎_elim}
 use Prim.Native.Nat.{suc, ℕ, ◌+◌, ◌-◌, ◌*◌, ◌<◌}
 use native.Mathlib.Omega.{arith}
 use lib.ListN.{length, set, length-set}
@@ -20,6 +19,7 @@ use Rattle.acread.proofs.through.Going.{Going, going_start, going_left, going_ne
 use Rattle.acread.specs.declared.BlockEnd.{BlockEnd}
 use Rattle.acread.specs.declared.BlockEnd.TheVariants as block
 use Rattle.preview.proofs.report.store_blocks.Goals as goal
+use Rattle.preview.proofs.report.store_blocks.Goals.{then-pending-lt64+in-At, else-pending-lt64}
 
 pub overflow_mul-at : goal.overflow_mul-at
 overflow_mul-at c = omega arith
@@ -94,17 +94,15 @@ loop-i-preserved c =
     let z : a.n - l.i ≡ suc m = omega arith in
     let one = next a.ac.now (8 * a.at) a.n l.c l.pending m (a.n - l.i) z l.invariant.2 s.requires.4 l.report l.i (omega (arith, l.invariant.1)) c.flat.result
     c.flat.ensures in
-    ⊎_elim
-    (λ w.
-    let d = w.3.given in
-    let e : w.1.result ≡ block.At d.0.0 d.0.1.0 = cc in
-    let k = one w.1.result w.1.ensures d.0.0 d.0.1.0 e c.if-pending-lt64.c c.if-pending-lt64.pending w.6 w.7 in
-    (omega arith, simp length-set l.invariant.1, k.0, l.invariant.3 ∙ k.1, subst (λ (x : ℕ). LooksFrom x a.tab.now) (sym w.8) (w.5.ensures a.tab.now s.requires.2)))
-    (λ w.
-    let k = one (block.At l.c (l.pending - 64)) (flat_ended a.ac.now l.c l.pending l.invariant.2.holds l.invariant.2.few (omega (arith, w.0.left))) l.c (l.pending - 64) refl
-    c.if-pending-lt64.c c.if-pending-lt64.pending w.1 w.2 in
-    (omega arith, simp length-set l.invariant.1, k.0, l.invariant.3 ∙ k.1, subst (λ (x : ℕ). LooksFrom x a.tab.now) (sym w.3) l.invariant.4))
-    c.if-pending-lt64.branch
+    elim c.if-pending-lt64.branch [
+      | then-pending-lt64+in-At w ↦
+          let k = one (block.At w.in-At.d w.in-At.m) w.in-At.ensures w.in-At.d w.in-At.m refl c.if-pending-lt64.c c.if-pending-lt64.pending w.c-is w.pending-is in
+          (omega arith, simp length-set l.invariant.1, k.0, l.invariant.3 ∙ k.1, subst (λ (x : ℕ). LooksFrom x a.tab.now) (sym w.least-is) (w.least_after-least.ensures a.tab.now s.requires.2))
+      | else-pending-lt64 w ↦
+          let k = one (block.At l.c (l.pending - 64)) (flat_ended a.ac.now l.c l.pending l.invariant.2.holds l.invariant.2.few (omega (arith, w.if-pending-lt64.false))) l.c (l.pending - 64) refl
+          c.if-pending-lt64.c c.if-pending-lt64.pending w.c-is w.pending-is in
+          (omega arith, simp length-set l.invariant.1, k.0, l.invariant.3 ∙ k.1, subst (λ (x : ℕ). LooksFrom x a.tab.now) (sym w.least-is) l.invariant.4)
+    ]
 
 pub end_byte-requires : goal.end_byte-requires
 end_byte-requires c = omega (arith, c.loop-i.invariant.2.near)

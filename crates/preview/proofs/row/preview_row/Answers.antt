@@ -12,11 +12,10 @@ use Rattle.preview.proofs.row.preview_row.Goals as goal
 
 pub loop-k-init : goal.loop-k-init
 loop-k-init c =
-    let s = c in
-    let a = s.args in (
+    let a = c.args in (
       omega arith,
       refl,
-      row_start a.dc.now a.shift (to_z w16 (of_z w16 a.level)) a.columns (to_z w16 (of_z w16 a.prior)) a.out.now s.requires.4 a.c0 s.requires.0 (rw (to_z-of_z s.ranges.prior) s.ranges.prior),
+      row_start a.dc.now a.shift (to_z w16 (of_z w16 a.level)) a.columns (to_z w16 (of_z w16 a.prior)) a.out.now c.requires.4 a.c0 c.requires.0 (rw (to_z-of_z c.ranges.prior) c.ranges.prior),
     )
 
 pub next_dc-g-requires : goal.next_dc-g-requires
@@ -43,7 +42,7 @@ loop-k-preserved c =
     let w : SFits w16 d.result = sfits_of d.type_inv in (
       omega arith,
       simp length-set l.invariant.1,
-      row_next a.dc.now a.shift (to_z w16 (of_z w16 a.level)) a.columns (to_z w16 (of_z w16 a.prior)) a.out.now s.requires.4 a.c0.pos l.c (to_z w16 l.last) l.k
+      row_next a.dc.now a.shift (to_z w16 (of_z w16 a.level)) a.columns (to_z w16 (of_z w16 a.prior)) a.out.now s.requires.4 a.c0.pos l.c _ l.k
           l.out l.invariant.2 (omega arith) g.result g.ensures (rw (to_z-of_z w) w) (to_z-of_z w ∙ d.ensures) c.preview_byte.ensures,
     )
 
@@ -56,5 +55,5 @@ returns c =
     let a = s.args in
     let l = c.loop-k in
     rw (to_z-of_z s.ranges.level, to_z-of_z s.ranges.prior) at
-    (row_done a.dc.now a.shift (to_z w16 (of_z w16 a.level)) a.columns (to_z w16 (of_z w16 a.prior)) a.out.now s.requires.4 a.c0.pos l.c (to_z w16 l.last) l.k l.out
+    (row_done a.dc.now a.shift (to_z w16 (of_z w16 a.level)) a.columns (to_z w16 (of_z w16 a.prior)) a.out.now s.requires.4 a.c0.pos l.c _ l.k l.out
     l.invariant.2 (omega arith) (omega arith))

@@ -45,6 +45,6 @@ returns c =
     let u = l in
     let s = u in
     let a = s.args in
-    let e : to_z w16 (of_z w16 l.lane8-level.result) ≡ level eight a.place = to_z-of_z (sfits_of l.lane8-level.type_inv) ∙ l.lane8-level.ensures in
+    let e : to_z w16 (of_z w16 l.lane8-level.result) ≡ level eight a.place = to_z-of_z {w = w16} (sfits_of l.lane8-level.type_inv) ∙ l.lane8-level.ensures in
     let f : to_z w16 (of_z w16 v.preview_row-row.result.last) ≡ v.preview_row-row.result.last = to_z-of_z v.preview_row-row.ensures.fits in
     rows_stored_from a.shift a.place a.columns a.upper.now a.lower.now a.dc.now a.at s.requires.5 u.cursor-c.ensures.1 (rw e at v.preview_row-row.ensures) f (rw e at w.preview_row-end.ensures) c.end_byte.ensures
