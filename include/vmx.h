@@ -1,6 +1,6 @@
 /* VMX planes, slice streams and frames.
  *
- * Link with libvmx.a (rt staticlib vmx). Every call is proved to give the answer that docs/PROMISES.md names, on every
+ * Link with libvmx.a (bash tests/library.sh vmx). Every call is proved to give the answer that docs/PROMISES.md names, on every
  * argument; no call allocates, keeps a pointer or has state of its own. A call takes less than 16 KiB of stack
  * (measured, and tested by bindings/rust/tests/stack.rs).
  *

@@ -1,5 +1,5 @@
 //! Tells the program whether the published sources were found, and links our
-//! static libraries, which `rt staticlib NAME` writes.
+//! static libraries, which `bash tests/library.sh NAME` builds at the repository's root.
 
 const LIBRARIES: [&str; 3] = ["probe", "probe_pairs", "vmx"];
 
@@ -15,7 +15,7 @@ fn main() {
     let folder = here.join(std::env::var("RATTLE_STATICLIB").unwrap_or_else(|_| "../target/staticlib".into()));
     for name in LIBRARIES {
         let file = folder.join(format!("lib{name}.a"));
-        assert!(file.is_file(), "{} is not there: run `rt staticlib {name}` first", file.display());
+        assert!(file.is_file(), "{} is not there: run `bash tests/library.sh {name}` first", file.display());
         println!("cargo:rerun-if-changed={}", file.display());
         println!("cargo:rustc-link-lib=static={name}");
     }

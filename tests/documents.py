@@ -14,7 +14,7 @@ from itertools import zip_longest
 sys.dont_write_bytecode = True
 
 import trusted
-from trusted import CRATES, ROOT, clauses, crate_of, crates_listed, read
+from trusted import CRATES, EXPORTS, ROOT, clauses, crate_of, crates_listed, read
 
 TRUSTED = ROOT / "docs/TRUSTED.md"
 PROMISES = ROOT / "docs/PROMISES.md"
@@ -218,7 +218,8 @@ def file_of(name):
     if modules and modules[-1][0].isupper():
         modules.pop()
     file = CRATES / crate / "src" / ("/".join(modules or ["lib"]) + ".rt")
-    passed_on = re.search(rf"^pub use crate::([\w:]+)::{last};", read(file), re.M) if file.is_file() else None
+    handed = rf"^pub use crate::([\w:]+)::(?:{last}|\{{[^}}]*\b{last}\b[^}}]*\}});"
+    passed_on = re.search(handed, read(file), re.M) if file.is_file() else None
     return file_of(f"{crate}::{passed_on.group(1)}::{last}") if passed_on else file
 
 
@@ -279,9 +280,12 @@ def unknown_names():
 # ---- the exported functions
 
 
+def exports_of(path):
+    return re.findall(r"#\[unsafe\(no_mangle\)\]\s+pub extern \"C\" fn (\w+)", read(path))
+
+
 def exported():
-    for path in sorted((CRATES / "vmx/src").glob("**/*.rt")):
-        yield from re.findall(r"#\[no_mangle\]\s+pub extern \"C\" fn (\w+)", read(path))
+    return [name for path in sorted(EXPORTS.glob("**/*.rt")) for name in exports_of(path)]
 
 
 def exports_without_edits():
@@ -293,6 +297,26 @@ def exports_without_edits():
             yield f"docs/PROMISES.md has no row for {name}"
         if tried.count(name) < 2:
             yield f"{name} is exported, and {tried.count(name)} edits name it: two are needed"
+
+
+def stated(name, path):
+    """A function from its name to its body, however it is laid out: parameters, result and clauses."""
+    found = re.search(rf"\bfn ({name}\b.*?)\s\{{\n", read(path), re.S)
+    return re.sub(r",(?=[)])", "", re.sub(r"\s+", "", found.group(1))) if found else None
+
+
+def exports_with_other_clauses():
+    """An exported function of a crate NAME_c has the parameters and the clauses of the function of crate NAME that it calls,
+    and its file takes the words of the clauses from the same places."""
+    for crate in crates_listed():
+        library = CRATES / crate.removesuffix("_c") / "src"
+        for path in sorted((CRATES / crate / "src").glob("**/*.rt")):
+            for name in exports_of(path):
+                called = library / path.relative_to(CRATES / crate / "src")
+                if not crate.endswith("_c") or not called.is_file() or stated(name, path) != stated(name, called):
+                    yield f"{named(path)}: {name} is not stated as in {named(called)}"
+                elif not trusted.definitions(path).taken.items() <= trusted.definitions(called).taken.items():
+                    yield f"{named(path)}: it takes a word from elsewhere than {named(called)} does"
 
 
 # ---- contracts
@@ -333,7 +357,7 @@ def main(words):
     problems += differs(README, readme_page())
     problems += too_long(DECISIONS, 2500)
     problems += [*edit_problems(), *crate_problems(), *naming_problems(), *unknown_names(), *trace_problems()]
-    problems += [*rows_not_met(), *exports_without_edits(), *long_contract_lines()]
+    problems += [*rows_not_met(), *exports_without_edits(), *exports_with_other_clauses(), *long_contract_lines()]
     problems = list(dict.fromkeys(problems))
     for problem in problems:
         print(f"documents: {problem}")

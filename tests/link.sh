@@ -2,7 +2,7 @@
 # Links a C program, the same as C++, and a Rust program with the static library and runs them.
 set -euo pipefail
 cd "$(dirname "$0")/.."
-[ -n "${VMX_LIBRARY_BUILT:-}" ] || rt staticlib vmx
+[ -n "${VMX_LIBRARY_BUILT:-}" ] || bash tests/library.sh vmx
 mkdir -p target/link
 gcc -std=c99 -Wall -Wextra -Werror -Iinclude tests/link.c target/staticlib/libvmx.a -o target/link/c
 target/link/c

@@ -9,10 +9,11 @@ from pathlib import Path
 
 ROOT = Path(__file__).resolve().parent.parent
 CRATES = ROOT / "crates"
+EXPORTS = CRATES / "vmx_c/src"
 STEPS = [CRATES / "vmx/proofs/Steps.antt", CRATES / "vmx/proofs/ReadSteps.antt"]
 CLAIM = (CRATES / "slice/specs/Demand3.antt", "Demand3")
 
-USE = re.compile(r"^(?:ghost |unfoldable )*(pub )?use (Rattle·[^\s{]+?)(?:\.\{([^}]*)\}| as ([^\s;]+));?$", re.M)
+USE = re.compile(r"^(?:ghost |unfoldable )*(pub )?use (Rattle\.[^\s{]+?)(?:\.\{([^}]*)\}| as ([^\s;]+));?$", re.M)
 HEAD = re.compile(r"(?:(?:abbrev|unfoldable|opaque|pub|data|record) )+([^\s:({]+)|([^\s:-]\S*) : ")
 MEMBER = re.compile(r"  (?:pub )?([^:(){}=]+) : ")
 
@@ -28,14 +29,14 @@ def crate_of(path):
 
 def crates_listed():
     """The crates of crates.txt, in its order: each after those that it lists."""
-    return re.findall(r"^(\w+):", read(ROOT / "crates.txt"), re.M)
+    return re.findall(r"^(\w+)(?: staticlib)?:", read(ROOT / "crates.txt"), re.M)
 
 
 def clauses(text):
     """Each `requires` and `ensures` of Rattle code: the number of its first line, and its lines."""
     depth, first, taken = 0, 0, []
     for number, line in enumerate(text.split("\n"), 1):
-        if not depth and not re.match(r"\s*(requires|ensures) \{", line):
+        if not depth and not re.match(r"\s*(requires|ensures)\*?( \w+)? \{", line):
             continue
         if not depth:
             first, taken = number, []
@@ -47,13 +48,13 @@ def clauses(text):
 
 def words_of(text):
     """The words of a text of definitions. One after a point is a field, or a name of the module before it: left out."""
-    words = re.findall(r"\.?[^\s(){};,.λ⌜⌝]+", re.sub(r"--.*", "", text))
+    words = re.findall(r"\.?[^\s(){};,.λ]+", re.sub(r"--.*", "", text))
     return {word for word in words if not word.startswith(".")}
 
 
 def spellings(name):
-    """How a name is spelt in a text: an operator is imported as `_▸_` and used as `▸`."""
-    return {name, name.strip("_")} - {""}
+    """How a name is spelt in a text: an operator is imported as `◌▸◌` and used as `▸`."""
+    return {name, name.strip("◌")} - {""}
 
 
 class Definitions:
@@ -62,6 +63,8 @@ class Definitions:
     def __init__(self, path):
         self.text, self.owner, self.taken, self.handed_on = {}, {}, {}, set()
         for public, module, names, alias in USE.findall(read(path)):
+            if not (CRATES / module.split(".")[1]).is_dir():
+                continue # the library's
             for entry in filter(None, re.split(r",\s*", names.strip() or alias)):
                 own, _, known = entry.partition(" as ")
                 for name in spellings(known or own):
@@ -93,12 +96,11 @@ def definitions(path):
 def defined_at(module, name):
     """Where a module's name (None: all of them) is defined: pairs of a file and a definition. What is handed on is followed.
     A contract of an exported function gives nothing here: it is looked at by itself."""
-    crate, words = re.fullmatch(r"Rattle·(\w+)(?:·\w+)?\.(.+)", module).groups()
-    words = words.split(".")
+    _, crate, *words = module.split(".")
     if words[-1] == "Reads":
         return []
     if words[1] == "declared":
-        *inside, kind = [word for word in words[2:] if word != "the-variants"]
+        *inside, kind = [word for word in words[2:] if word != "TheVariants"]
         return [(CRATES / crate / "src" / ("/".join(inside or ["lib"]) + ".rt"), kind)]
     path = CRATES / crate / ("/".join(words) + ".antt")
     known = definitions(path)
@@ -113,9 +115,9 @@ def defined_at(module, name):
 
 def cited_by_exports():
     """What the contracts of the exported functions cite."""
-    for path in sorted((CRATES / "vmx/src").glob("**/*.rt")):
+    for path in sorted(EXPORTS.glob("**/*.rt")):
         taken = definitions(path).taken
-        for part in read(path).split("#[no_mangle]")[1:]:
+        for part in read(path).split("#[unsafe(no_mangle)]")[1:]:
             contract = "\n".join("\n".join(lines) for _, lines in clauses(part.split("\n{\n")[0]))
             for name in sorted(words_of(contract) & taken.keys()):
                 yield from defined_at(*taken[name])

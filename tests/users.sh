@@ -4,7 +4,7 @@
 set -euo pipefail
 cd "$(dirname "$0")/.."
 export CARGO_TARGET_DIR="$PWD/target/users"
-[ -n "${VMX_LIBRARY_BUILT:-}" ] || rt staticlib vmx
+[ -n "${VMX_LIBRARY_BUILT:-}" ] || bash tests/library.sh vmx
 for crate in bindings/rust tool; do
     cargo test --release --locked --offline --quiet --manifest-path "$crate/Cargo.toml"
 done

@@ -1,4 +1,4 @@
-//! Finds libvmx.a, which `rt staticlib vmx` writes at the repository's root, and links it.
+//! Finds libvmx.a, which `bash tests/library.sh vmx` builds at the repository's root, and links it.
 //! VMX_LIB_DIR names another folder.
 
 use std::path::PathBuf;
@@ -15,7 +15,7 @@ fn main() {
     println!("cargo:rerun-if-changed={}", library.display());
     if !library.is_file() {
         eprintln!("error: {} is not there.", library.display());
-        eprintln!("Run `rt staticlib vmx` at the repository's root first, or name its folder in VMX_LIB_DIR.");
+        eprintln!("Run `bash tests/library.sh vmx` at the repository's root first, or name its folder in VMX_LIB_DIR.");
         process::exit(1);
     }
     println!("cargo:rustc-link-search=native={}", folder.display());
