@@ -1,6 +1,5 @@
 -- `builder::streams::complete`.
 use mathlib.Core.Path.{sym, ◌∙◌}
-use mathlib.Core.Bool.{true}
 use Rattle.layout.proofs.Laws.{sized}
 use Rattle.builder.proofs.streams.Laws.{complete_told, complete_refused}
 use Rattle.builder.proofs.streams.complete.Goals as goal
@@ -9,7 +8,7 @@ pub slice_count-slices-requires : goal.slice_count-slices-requires
 slice_count-slices-requires c =
     let x = c.before in
     let a = x.before.args in
-    (sized a.width a.height (sym x.Size-ok.ensures ∙ c.if-size_ok.true)).high
+    (sized a.width a.height (sym x.size_ok.ensures ∙ c.if-size_ok.true)).high
 
 pub returns-then-size_ok : goal.returns-then-size_ok
 returns-then-size_ok c =
@@ -17,10 +16,10 @@ returns-then-size_ok c =
     let t = n.before in
     let x = t.before in
     let a = x.before.args in
-    complete_told a.width a.height a.ac-turn a.next (sym x.Size-ok.ensures ∙ t.if-size_ok.true) n.slice_count-slices.ensures c.is_complete.ensures
+    complete_told a.width a.height a.ac_turn a.next (sym x.size_ok.ensures ∙ t.if-size_ok.true) n.slice_count-slices.ensures c.is_complete.ensures
 
 pub returns : goal.returns
 returns c =
     let x = c.before in
     let a = x.before.args in
-    complete_refused a.width a.height a.ac-turn a.next (sym x.Size-ok.ensures ∙ c.if-size_ok.false)
+    complete_refused a.width a.height a.ac_turn a.next (sym x.size_ok.ensures ∙ c.if-size_ok.false)

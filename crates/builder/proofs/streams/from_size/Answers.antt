@@ -5,12 +5,12 @@ use Rattle.ask.proofs.FirstNo.{yes, no}
 use Rattle.builder.proofs.streams.from_size.Goals as goal
 
 pub limit_and_turn-requires : goal.limit_and_turn-requires
-limit_and_turn-requires c = sym c.before.Size-ok.ensures ∙ c.if-size_ok.true
+limit_and_turn-requires c = sym c.before.size_ok.ensures ∙ c.if-size_ok.true
 
 pub returns-then-size_ok : goal.returns-then-size_ok
 returns-then-size_ok c =
     let t = c.before in
-    c.limit_and_turn.ensures ∙ sym (yes no_size _ (sym t.before.Size-ok.ensures ∙ t.if-size_ok.true))
+    c.limit_and_turn.ensures ∙ sym (yes no_size _ (sym t.before.size_ok.ensures ∙ t.if-size_ok.true))
 
 pub returns : goal.returns
-returns c = sym (no no_size _ (sym c.before.Size-ok.ensures ∙ c.if-size_ok.false))
+returns c = sym (no no_size _ (sym c.before.size_ok.ensures ∙ c.if-size_ok.false))
