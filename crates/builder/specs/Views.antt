@@ -1,5 +1,5 @@
 -- What the code's types say, in the definitions' terms. One function for each type.
-use Rattle.std.specs.Prelude.{Bool, true, false, List, ℕ, ◌≡◌}
+use Rattle.std.specs.Prelude.{List, ℕ, ◌≡◌}
 use Rattle.ask.specs.Ask.{Answer, refused, accepted}
 use Rattle.builder.specs.Build.{Build, Built, default_shift}
 use Rattle.builder.specs.declared.Shift.{Shift}

@@ -2,7 +2,7 @@
 use borrow.Author.Tests.{lt-leb}
 use mathlib.Core.Path.{sym}
 use native.Mathlib.Omega.{arith}
-use Prim.Native.Nat.{◌+◌, ◌-◌}
+use Prim.Native.Nat.{◌+◌}
 use Rattle.builder.proofs.Laws.{by_difference}
 use Rattle.builder.proofs.fits.Goals as goal
 

@@ -1,8 +1,6 @@
 -- `builder::header_size`.
 use mathlib.Core.Path.{refl, sym}
-use mathlib.Core.Bool.{true, false}
 use native.Mathlib.Omega.{arith}
-use Prim.Native.Nat.{◌-◌}
 use Rattle.builder.proofs.Laws.{five}
 use Rattle.builder.proofs.header_size.Goals as goal
 

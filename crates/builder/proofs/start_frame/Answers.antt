@@ -1,8 +1,6 @@
 -- `builder::start_frame`.
 use mathlib.Core.Path.{◌≡◌, refl, sym, ◌∙◌, ap}
-use mathlib.Core.Bool.{true, false}
 use native.Mathlib.Omega.{arith}
-use Prim.Native.Nat.{◌-◌}
 use lib.ListN.{length}
 use Rattle.ask.specs.Ask.{first_no}
 use Rattle.layout.proofs.Laws.{sized}

@@ -11,14 +11,8 @@ use Rattle.builder.proofs.start_number.Goals as goal
 pub returns : goal.returns
 unfolding start_questions first_no
 returns c =
-    let from-room = c.before in
-    let from-size = from-room.before in
-    let size = from-size.before in
-    let room = size.before in
-    let long = room.before in
-    let shift = long.before in
-    let a = shift.before.args in
+    let a = c.args in
     c.or_else.ensures
-    ∙ ap₂ (λ (b : Bool) (n : ℕ). or_else b no_shift n) shift.shift_ok-shifts.ensures (from-room.or_else-from_room.ensures
-    ∙ ap₂ (λ (b : Bool) (n : ℕ). or_else b no_room n) (room.fits2.ensures ∙ ap (λ (n : ℕ). leb (a.at + n) a.len) long.header_size-n.ensures.0) (from-size.or_else-from_size.ensures
-    ∙ ap (λ (b : Bool). or_else b no_size 0) size.Size-ok.ensures))
+    ∙ ap₂ (λ (b : Bool) (n : ℕ). or_else b no_shift n) c.shift_ok-shifts.ensures (c.or_else-from_room.ensures
+    ∙ ap₂ (λ (b : Bool) (n : ℕ). or_else b no_room n) (c.fits-room.ensures ∙ ap (λ (n : ℕ). leb (a.at + n) a.len) c.header_size-n.ensures.0) (c.or_else-from_size.ensures
+    ∙ ap (λ (b : Bool). or_else b no_size 0) c.size_ok-size.ensures))

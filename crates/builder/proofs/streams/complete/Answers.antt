@@ -1,6 +1,5 @@
 -- `builder::streams::complete`.
 use mathlib.Core.Path.{sym, ◌∙◌}
-use mathlib.Core.Bool.{true}
 use Rattle.layout.proofs.Laws.{sized}
 use Rattle.builder.proofs.streams.Laws.{complete_told, complete_refused}
 use Rattle.builder.proofs.streams.complete.Goals as goal

@@ -1,8 +1,6 @@
 -- `builder::streams::in_turn`.
 use borrow.Author.Tests.{lt-ltb, le-ltb}
 use mathlib.Core.Path.{sym, ◌∙◌}
-use mathlib.Core.Bool.{true, false}
-use Prim.Native.Nat.{◌-◌}
 use Rattle.builder.proofs.streams.in_turn.Goals as goal
 
 pub returns-then-turn_of : goal.returns-then-turn_of

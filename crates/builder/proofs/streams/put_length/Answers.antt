@@ -1,6 +1,6 @@
 -- `builder::streams::put_length`.
 use native.Mathlib.Omega.{arith}
-use Prim.Native.Nat.{◌-◌, ◌/◌, ◌%◌}
+use Prim.Native.Nat.{◌/◌, ◌%◌}
 use lib.ListN.{length-set}
 use Rattle.copy.proofs.Laws.{lay4}
 use Rattle.builder.proofs.streams.put_length.Goals as goal
