@@ -8,7 +8,7 @@ use lib.ListN.{length, take}
 use Rattle.ask.specs.Ask.{Question, refused, accepted, first_no, asked}
 use Rattle.ask.specs.Limits.{stride_ok, count_ok, dc_block_bytes, ac_block_bytes, dc_column_bytes, ac_column_bytes}
 use Rattle.ask.proofs.FirstNo.{passed}
-use Rattle.calls.specs.Arguments.{eight, settings, Plane, PerStream}
+use Rattle.calls.specs.Arguments.{eight, settings, Plane, PerStream, settings, eight}
 use Rattle.calls.specs.Grid.{blocks_of}
 use Rattle.calls.specs.Questions.{strides_ok, lengths_at_most, together, plane_size_questions, slice_size_questions}
 use Rattle.calls.specs.Previews.{plane_size, slice_size, lengths_of_all, of_stride, first_of_four}
@@ -82,7 +82,7 @@ module _ (n s0 s1 s2 s3 : ℕ) where
       unfolding slice_size
       slice_sized h =
           sized_by (slice_size_questions n (first_of_four n s0 s1 s2 s3)) (room_of k) (lengths_of_all (first_of_four n s0 s1 s2 s3)) e h
-          (ap room_of (g ∙ columns) ∙ room_is _ (first_of_four n s0 s1 s2 s3) ∙ lengths_room (first_of_four n s0 s1 s2 s3))
+          (ap room_of (g ∙ columns) ∙ room_is (settings eight 0 0) (first_of_four n s0 s1 s2 s3) ∙ lengths_room (first_of_four n s0 s1 s2 s3))
 
       pub slice_columns : m ≡ 0 → k ≤ 3840
       slice_columns h = omega (arith, g ∙ columns, columns_le (first_of_four n s0 s1 s2 s3) (strides_good h), take_le n four)

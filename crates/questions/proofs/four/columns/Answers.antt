@@ -58,37 +58,37 @@ n k = k.args.f.count
 pub returns-then-n-eq1 : goal.returns-then-n-eq1
 returns-then-n-eq1 c =
     let k = c in
-    sum_one (n k) k.column-c0.result k.column-c1.result k.column-c2.result k.column-c3.result c.if-n-eq1.true ∙ as_strides k (n k)
+    sum_one (n (goal.at.returns-then-n-eq1 c).After-column-c3) k.column-c0.result k.column-c1.result k.column-c2.result k.column-c3.result c.if-n-eq1.true ∙ as_strides (goal.at.returns-then-n-eq1 c).After-column-c3 (n (goal.at.returns-then-n-eq1 c).After-column-c3)
 
 pub overflow_add-result : goal.overflow_add-result
-overflow_add-result c = let f = four c in record { fits = omega (arith, f.small1, f.small2) }
+overflow_add-result c = let f = four (goal.at.overflow_add-result c).After-column-c3 in record { fits = omega (arith, f.small1, f.small2) }
 
 pub returns-then-n-eq2 : goal.returns-then-n-eq2
 returns-then-n-eq2 c =
     let k = c in
-    sum_two (n k) k.column-c0.result k.column-c1.result k.column-c2.result k.column-c3.result c.if-n-eq2.true ∙ as_strides k (n k)
+    sum_two (n (goal.at.returns-then-n-eq2 c).After-column-c3) k.column-c0.result k.column-c1.result k.column-c2.result k.column-c3.result c.if-n-eq2.true ∙ as_strides (goal.at.returns-then-n-eq2 c).After-column-c3 (n (goal.at.returns-then-n-eq2 c).After-column-c3)
 
 pub overflow_add-result-then-n-eq3 : goal.overflow_add-result-then-n-eq3
-overflow_add-result-then-n-eq3 c = let f = four c in record { fits = omega (arith, f.small1, f.small2) }
+overflow_add-result-then-n-eq3 c = let f = four (goal.at.overflow_add-result-then-n-eq3 c).After-column-c3 in record { fits = omega (arith, f.small1, f.small2) }
 
 pub overflow_add-result-then-n-eq3-2 : goal.overflow_add-result-then-n-eq3-2
-overflow_add-result-then-n-eq3-2 c = let f = four c in record { fits = omega (arith, f.small1, f.small2, f.small3) }
+overflow_add-result-then-n-eq3-2 c = let f = four (goal.at.overflow_add-result-then-n-eq3-2 c).After-column-c3 in record { fits = omega (arith, f.small1, f.small2, f.small3) }
 
 pub returns-then-n-eq3 : goal.returns-then-n-eq3
 returns-then-n-eq3 c =
     let k = c in
-    sum_three (n k) k.column-c0.result k.column-c1.result k.column-c2.result k.column-c3.result c.if-n-eq3.true ∙ as_strides k (n k)
+    sum_three (n (goal.at.returns-then-n-eq3 c).After-column-c3) k.column-c0.result k.column-c1.result k.column-c2.result k.column-c3.result c.if-n-eq3.true ∙ as_strides (goal.at.returns-then-n-eq3 c).After-column-c3 (n (goal.at.returns-then-n-eq3 c).After-column-c3)
 
 pub overflow_add-result-2 : goal.overflow_add-result-2
-overflow_add-result-2 c = let f = four c in record { fits = omega (arith, f.small1, f.small2) }
+overflow_add-result-2 c = let f = four (goal.at.overflow_add-result-2 c).After-column-c3 in record { fits = omega (arith, f.small1, f.small2) }
 
 pub overflow_add-result-3 : goal.overflow_add-result-3
-overflow_add-result-3 c = let f = four c in record { fits = omega (arith, f.small1, f.small2, f.small3) }
+overflow_add-result-3 c = let f = four (goal.at.overflow_add-result-3 c).After-column-c3 in record { fits = omega (arith, f.small1, f.small2, f.small3) }
 
 pub overflow_add-result-4 : goal.overflow_add-result-4
-overflow_add-result-4 c = let f = four c in record { fits = omega (arith, f.small1, f.small2, f.small3, f.small4) }
+overflow_add-result-4 c = let f = four (goal.at.overflow_add-result-4 c).After-column-c3 in record { fits = omega (arith, f.small1, f.small2, f.small3, f.small4) }
 
 pub returns : goal.returns
 returns c =
     let k = c in
-    sum_four (n k) k.column-c0.result k.column-c1.result k.column-c2.result k.column-c3.result (omega arith) ∙ as_strides k (n k)
+    sum_four (n (goal.at.returns c).After-column-c3) k.column-c0.result k.column-c1.result k.column-c2.result k.column-c3.result (omega arith) ∙ as_strides (goal.at.returns c).After-column-c3 (n (goal.at.returns c).After-column-c3)

@@ -14,6 +14,6 @@ returns c =
     let w = s in
     let a = w.args in
     λ depth samples e. c.coding.ensures
-    ∙ coding_is (plane_call depth a.s a.h samples) (lengths_by a.dc a.ac) (starts_by a.dc a.ac) w.Place-ok.ensures
+    ∙ coding_is (plane_call depth a.s a.h samples) (lengths_by a.dc a.ac) (starts_by a.dc a.ac) w.place_ok-which.ensures
     (s.stride_ok-strides.ensures ∙ and_yes (stride_ok a.h.stride))
     (l.rows_ok-long.ensures ∙ ap (leb (rows_needed a.h.stride)) (sym e) ∙ and_yes _) (omega arith)

@@ -10,7 +10,7 @@ use Rattle.questions.proofs.sizes.slice_size.Goals.{After-columns-columns, Else-
 pub returns-then-n-gt0 : goal.returns-then-n-gt0
 returns-then-n-gt0 c = let f = c.args.f in slice_refused f.count (stride_by f 0) (stride_by f 1) (stride_by f 2) (stride_by f 3) c.slice_number-n.ensures c.if-n-gt0.true
 
-accepted : (c : Else-n-gt0) → c.slice_number-n.result ≡ 0
+accepted : (c : After-columns-columns) → c.slice_number-n.result ≡ 0
 accepted c = omega (arith, c.if-n-gt0.false)
 
 few : (c : After-columns-columns) → c.columns-columns.result ≤ 3840
@@ -29,4 +29,4 @@ pub returns : goal.returns
 returns c =
     let e = c in
     let f = e.args.f in
-    slice_sized f.count (stride_by f 0) (stride_by f 1) (stride_by f 2) (stride_by f 3) e.slice_number-n.ensures c.columns-columns.ensures (accepted e)
+    slice_sized f.count (stride_by f 0) (stride_by f 1) (stride_by f 2) (stride_by f 3) e.slice_number-n.ensures c.columns-columns.ensures (omega (arith, c.if-n-gt0.false))
