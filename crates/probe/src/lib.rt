@@ -1,5 +1,5 @@
-// Inner functions opened to Rust, for the comparison with the published code: one file for each crate. Nobody else calls them.
-// What the crate vmx exports is compared through it.
+// Inner functions opened for the comparison with the published code: one file for each crate. The crate probe_c exports them to the
+// oracle, and replays calls some; nobody else does. What the crate vmx_c exports is compared through it.
 #![tactic(auto)]
 
 mod arrays;

@@ -1,4 +1,4 @@
-// VMX planes, slice streams and frames: the calls for programs in C, C++ and Rust (include/vmx.h).
+// VMX planes, slice streams and frames: the calls for programs in C, C++ and Rust (include/vmx.h), which the crate vmx_c exports.
 #![tactic(auto)]
 
 pub mod container;
