@@ -1,15 +1,14 @@
 -- A frame that was written is read back: header, streams and their bytes.
 use mathlib.Core.Path.{◌≡◌, refl, sym, ap, ap₂, ◌∙◌}
-use mathlib.Core.Bool.{Bool, true, false, ◌&&◌}
-use mathlib.Core.List.{List, [], ◌∷◌, ◌++◌, append_assoc, append-nil}
-use Prim.Native.Nat.{ℕ, zero, suc, ◌+◌, ◌-◌, ◌*◌, ◌/◌, ◌%◌, ◌≤◌, ◌<◌}
-use native.Mathlib.Nat.{add-zero, add_assoc, div-div-eq-div-mul}
+use mathlib.Core.List.{List, [], ◌∷◌, ◌++◌, append_assoc}
+use Prim.Native.Nat.{ℕ, suc, ◌+◌, ◌*◌, ◌/◌, ◌%◌, ◌≤◌, ◌<◌}
+use native.Mathlib.Nat.{add-zero, div-div-eq-div-mul}
 use native.Mathlib.Omega.{arith}
 use lib.ListN.{length, get_or, take, drop, length-append}
 use lib.Seq.{get_or-append-add, drop-append-add, take-append_seam}
-use Rattle.ask.specs.Ask.{Answer, refused, accepted, and_then}
-use Rattle.parser.specs.streams.Streams.{byte_at, length_at, one_stream, streams}
-use Rattle.parser.specs.Frame.{View, stream_part, nth_stream}
+use Rattle.ask.specs.Ask.{accepted}
+use Rattle.parser.specs.streams.Streams.{length_at, one_stream, streams}
+use Rattle.parser.specs.Frame.{stream_part, nth_stream}
 use Rattle.parser.proofs.streams.Laws.{one_whole, turn}
 use Rattle.parser.proofs.Laws.{nth_yes}
 use Rattle.builder.specs.streams.Put.{length_word, stream_bytes, all_streams}

@@ -1,21 +1,20 @@
 -- A frame that is built by any calls, refused ones among them, and is called complete, is read.
 use mathlib.Core.Path.{◌≡◌, refl, sym, ap, ap₂, ◌∙◌, subst}
-use mathlib.Core.Bool.{Bool, true, false, ◌&&◌, ◌||◌}
+use mathlib.Core.Bool.{Bool, true, false}
 use mathlib.Core.List.{List, [], ◌∷◌, ◌++◌, append_assoc, append-nil}
-use Prim.Native.Nat.{ℕ, zero, suc, ◌+◌, ◌-◌, ◌≤◌, ◌<◌}
-use native.Mathlib.Nat.{add-zero}
+use Prim.Native.Nat.{ℕ, zero, suc, ◌+◌, ◌≤◌, ◌<◌}
 use native.Mathlib.Omega.{arith}
-use lib.Dec.{leb, ltb, eqb}
+use lib.Dec.{eqb}
 use lib.ListN.{length, length-append}
 use borrow.Author.Tests.{eq-eqb, ne_eqb, eqb-true, eqb-false}
 use Rattle.ask.specs.Limits.{shift_max}
 use Rattle.ask.specs.Ask.{Answer, refused, accepted, first_no, asked}
 use Rattle.bits.specs.Lay.{lay}
-use Rattle.bits.proofs.LayLaw.{lay_lay, lay_length}
-use Rattle.layout.specs.Geometry.{size_ok, slice_count, max_dc_len, max_ac_len}
+use Rattle.bits.proofs.LayLaw.{lay_lay}
+use Rattle.layout.specs.Geometry.{slice_count, max_dc_len, max_ac_len}
 use Rattle.parser.specs.Frame.{parse_of}
 use Rattle.builder.specs.Build.{Build, Built, header_size, header_bytes, count_byte, start_questions, header_of, started}
-use Rattle.builder.specs.streams.Put.{stream_bytes, stream_questions, stream_of, after_stream, all_streams, write_of, is_complete, complete_of}
+use Rattle.builder.specs.streams.Put.{stream_bytes, stream_questions, after_stream, all_streams, write_of, is_complete, complete_of}
 use Rattle.builder.proofs.Laws.{starts, Starts, header_no, header_yes}
 use Rattle.builder.proofs.streams.Laws.{puts, Puts, stream_no, stream_done, after_ac, after_last, after_dc}
 use Rattle.frames.specs.Whole.{Within, AllOrNone, Complete, frame_in}

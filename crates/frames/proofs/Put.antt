@@ -1,21 +1,19 @@
 -- The builder's frame is `write`'s, wherever the streams are within their limits and the buffer has room.
-use mathlib.Core.Path.{◌≡◌, refl, sym, ap, ap₂, ◌∙◌}
-use mathlib.Core.Bool.{Bool, true, false, ◌&&◌}
+use mathlib.Core.Path.{◌≡◌, refl, sym, ap, ◌∙◌}
+use mathlib.Core.Bool.{Bool, true, false}
 use mathlib.Core.List.{List, [], ◌∷◌, ◌++◌, append_assoc, append-nil}
-use Prim.Native.Nat.{ℕ, zero, suc, ◌+◌, ◌-◌, ◌≤◌, ◌<◌}
-use native.Mathlib.Nat.{add-zero, add_assoc}
-use native.Mathlib.Numerals.{add-one}
+use Prim.Native.Nat.{ℕ, zero, suc, ◌+◌, ◌≤◌, ◌<◌}
+use native.Mathlib.Nat.{add-zero}
 use native.Mathlib.Omega.{arith}
-use lib.Dec.{leb, ltb, eqb}
 use lib.ListN.{length, length-append}
 use borrow.Author.Tests.{lt-ltb, le-leb, eq-eqb, ne_eqb}
 use Rattle.ask.specs.Limits.{shift_max}
-use Rattle.ask.specs.Ask.{Answer, refused, accepted, and_then, first_no}
+use Rattle.ask.specs.Ask.{accepted}
 use Rattle.bits.specs.Lay.{lay}
-use Rattle.bits.proofs.LayLaw.{lay_none, lay_lay, lay_length}
+use Rattle.bits.proofs.LayLaw.{lay_lay, lay_length}
 use Rattle.layout.specs.Geometry.{size_ok, slice_count, max_dc_len, max_ac_len, limit_of}
-use Rattle.builder.specs.Build.{Build, Built, header_size, header_bytes, count_byte, start_questions, header_of, started}
-use Rattle.builder.specs.streams.Put.{length_word, stream_bytes, stream_questions, stream_of, after_stream, in_turn, same, is_last_slice, all_streams, write_of}
+use Rattle.builder.specs.Build.{Build, header_size, header_bytes, count_byte, header_of, started}
+use Rattle.builder.specs.streams.Put.{length_word, stream_bytes, stream_of, after_stream, in_turn, same, is_last_slice, all_streams, write_of}
 use Rattle.builder.proofs.Laws.{all_yes, header_yes}
 use Rattle.builder.proofs.streams.Laws.{stream_yes, stream_done}
 use Rattle.frames.specs.Whole.{put_all, build_of, Within}

@@ -1,23 +1,22 @@
 -- Reading a frame that `write` made: the header comes back, and with it that all streams are whole.
 use mathlib.Core.Path.{◌≡◌, refl, sym, ap, ap₂, ◌∙◌}
 use mathlib.Core.Bool.{Bool, true, false, ◌&&◌}
-use mathlib.Core.List.{List, [], ◌∷◌, ◌++◌, append_assoc, append-nil}
-use Prim.Native.Nat.{ℕ, zero, suc, ◌+◌, ◌*◌, ◌/◌, ◌%◌, ◌≤◌, ◌<◌}
+use mathlib.Core.List.{List, [], ◌∷◌, ◌++◌, append_assoc}
+use Prim.Native.Nat.{ℕ, zero, suc, ◌+◌, ◌≤◌, ◌<◌}
 use native.Mathlib.Omega.{arith}
-use lib.Dec.{leb, ltb, eqb}
 use lib.ListN.{length, length-append}
 use borrow.Author.Tests.{eq-eqb}
-use Rattle.ask.specs.Ask.{Answer, refused, accepted, first_no}
+use Rattle.ask.specs.Ask.{accepted, first_no}
 use Rattle.ask.specs.Limits.{shift_max}
 use Rattle.layout.specs.Geometry.{size_ok, slice_count, max_dc_len, max_ac_len, interlace_capable}
-use Rattle.parser.specs.streams.Streams.{byte_at, streams}
-use Rattle.parser.specs.head.Header.{format_at, shift_in, slice_count_ok, header_length, header_questions, is_interlaced, FrameRead, frame_read}
+use Rattle.parser.specs.streams.Streams.{streams}
+use Rattle.parser.specs.head.Header.{header_length, header_questions, FrameRead, frame_read}
 use Rattle.parser.specs.Frame.{dc_streams, parse_of}
-use Rattle.layout.proofs.Laws.{sized, Sized}
+use Rattle.layout.proofs.Laws.{sized}
 use Rattle.parser.proofs.head.Laws.{all_yes}
 use Rattle.parser.proofs.Laws.{dc_only, ac_too}
-use Rattle.builder.specs.Build.{format_byte, header_bytes, count_byte}
-use Rattle.builder.specs.streams.Put.{stream_bytes, all_streams, write_of}
+use Rattle.builder.specs.Build.{header_bytes, count_byte}
+use Rattle.builder.specs.streams.Put.{stream_bytes, all_streams}
 use Rattle.frames.specs.Whole.{Within}
 use Rattle.frames.proofs.Put.{stream_length}
 use Rattle.frames.proofs.Back.{streams_read}

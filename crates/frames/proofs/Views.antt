@@ -2,22 +2,22 @@
 use mathlib.Core.Path.{◌≡◌, refl, sym, ap, ap₂, ◌∙◌}
 use mathlib.Core.Bool.{Bool, true, false, ◌&&◌}
 use mathlib.Core.List.{List, [], ◌∷◌, ◌++◌, append_assoc, append-nil}
-use Prim.Native.Nat.{ℕ, zero, suc, ◌+◌, ◌*◌, ◌/◌, ◌%◌, ◌≤◌, ◌<◌}
+use Prim.Native.Nat.{ℕ, zero, suc, ◌+◌, ◌≤◌, ◌<◌}
 use native.Mathlib.Omega.{arith}
-use lib.Dec.{leb, ltb, eqb}
+use lib.Dec.{ltb}
 use lib.ListN.{length, length-append}
 use borrow.Author.Tests.{ltb-true, ltb-false}
-use Rattle.ask.specs.Ask.{Answer, refused, accepted}
+use Rattle.ask.specs.Ask.{refused, accepted}
 use Rattle.ask.specs.Limits.{shift_max}
 use Rattle.ask.specs.Numbers.{no_turn}
 use Rattle.layout.specs.Geometry.{width_ok, size_ok, slice_count, max_dc_len, max_ac_len}
 use Rattle.parser.specs.streams.Streams.{one_stream, streams}
 use Rattle.parser.specs.head.Header.{FrameRead}
-use Rattle.parser.specs.Frame.{dc_streams, nth_stream, parse_of, view_of, bytes_of, wanted}
+use Rattle.parser.specs.Frame.{dc_streams, nth_stream, parse_of, view_of, bytes_of}
 use Rattle.parser.proofs.Laws.{ac_nth, view_yes, view_beyond, view_unwanted}
 use Rattle.builder.specs.Build.{header_bytes, count_byte}
 use Rattle.builder.specs.streams.Put.{stream_bytes, all_streams, write_of}
-use Rattle.frames.specs.Whole.{Within, AllOrNone, Complete, of_kind, stream_at}
+use Rattle.frames.specs.Whole.{Within, Complete, of_kind, stream_at}
 use Rattle.frames.proofs.Put.{stream_length}
 use Rattle.frames.proofs.Back.{one_read, its_bytes}
 use Rattle.frames.proofs.Read.{read_back, head_length, dc_limit, ac_limit, dc_walked, read_dc_lem, read_both}

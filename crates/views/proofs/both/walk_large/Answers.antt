@@ -7,6 +7,5 @@ use Rattle.views.proofs.both.walk_large.Goals as goal
 
 pub walk_with-requires : goal.walk_with-requires
 walk_with-requires c =
-    let s = c.before.before.before.before in
-    let a = s.args in
-    (s.requires, omega (arith, few a.height refl (legal a.width a.height a.frame.now s.requires.yes).high))
+    let a = c.args in
+    (c.requires, omega (arith, few a.height refl (legal a.width a.height a.frame.now c.requires.yes).high))

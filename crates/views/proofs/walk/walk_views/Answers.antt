@@ -1,6 +1,6 @@
 -- `views::walk::walk_views`: after each stream the table holds the views so far.
 use mathlib.Core.Path.{refl, sym}
-use Prim.Native.Nat.{◌-◌, ◌≤◌}
+use Prim.Native.Nat.{◌≤◌}
 use native.Mathlib.Omega.{arith}
 use Rattle.parser.proofs.streams.Laws.{place_told, part_before}
 use Rattle.views.proofs.walk.Walk.{begins, goes_on_lem, stops, undone, ends, stores, one_within}
@@ -8,60 +8,42 @@ use Rattle.views.proofs.walk.walk_views.Goals as goal
 
 pub loop-k-init : goal.loop-k-init
 loop-k-init c =
-    let s = c.before.before.before in
-    let a = s.args in
-    begins a.f.now a.n a.limit a.p a.from a.table.now a.held.now s.requires
+    let a = c.args in
+    begins a.f.now a.n a.limit a.p a.from a.table.now a.held.now c.requires
 
 pub overflow_sub-q : goal.overflow_sub-q
-overflow_sub-q c =
-    let k = c.before.before in
-    let l = k.before.before.before.before in
-    let a = l.before.before.before.before.args in
-    part_before a.limit a.f.now l.loop-k.at (place_told k.before.before.one_stream.ensures k.q-1.given.1)
+overflow_sub-q c = part_before c.args.limit c.args.f.now c.loop-k.at (place_told c.one_stream.ensures c.in-At.is)
 
 pub overflow_cast-q : goal.overflow_cast-q
 overflow_cast-q c =
-    let k = c.before.before in
-    let l = k.before.before.before.before in
-    let s = l.before.before.before.before in
-    let a = s.args in
-    omega (arith, s.requires.short, one_within a.limit a.f.now l.loop-k.at (place_told k.before.before.one_stream.ensures k.q-1.given.1))
+    omega (arith, c.requires.short, one_within c.args.limit c.args.f.now c.loop-k.at (place_told c.one_stream.ensures c.in-At.is))
 
 pub copy-requires : goal.copy-requires
 copy-requires c = (omega arith, omega arith)
 
 pub returns-in-Refused : goal.returns-in-Refused
 returns-in-Refused c =
-    let k = c.before.before.before.before.before in
-    let l = k.before.before.before.before in
-    let s = l.before.before.before.before in
-    let a = s.args in
-    let w = l.loop-k.invariant in
-    let no = stops a.f.now a.n a.limit a.p a.from a.table.now a.held.now s.requires w (omega arith) (place_told k.before.before.one_stream.ensures k.x-1.given.1) in (
+    let a = c.args in
+    let w = c.loop-k.invariant in
+    let no = stops a.f.now a.n a.limit a.p a.from a.table.now a.held.now c.requires w c.loop-k-test.true (place_told c.one_stream.ensures c.in-Refused.is) in (
       sym no,
       rw no
-          (undone a.f.now a.n a.limit a.p a.from a.table.now a.held.now s.requires w (omega arith) c.before.before.copy.ensures),
+          (undone a.f.now a.n a.limit a.p a.from a.table.now a.held.now c.requires w c.loop-k-test.true c.copy.ensures),
     )
 
 pub loop-k-preserved : goal.loop-k-preserved
 loop-k-preserved c =
-    let v = c.before.before in
-    let k = v.before.before.before in
-    let l = k.before.before.before.before in
-    let s = l.before.before.before.before in
-    let a = s.args in
-    goes_on_lem a.f.now a.n a.limit a.p a.from a.table.now a.held.now s.requires l.loop-k.invariant (omega arith) refl
-    (place_told k.before.before.one_stream.ensures k.q-1.given.1) v.put_view.ensures
+    let a = c.args in
+    goes_on_lem a.f.now a.n a.limit a.p a.from a.table.now a.held.now c.requires c.loop-k.invariant c.loop-k-test.true refl
+    (place_told c.one_stream.ensures c.in-At.is) c.put_view.ensures
 
 pub returns : goal.returns
 returns c =
-    let l = c.before in
-    let s = l.before.before.before.before in
-    let a = s.args in
-    let w = l.loop-k.invariant in
-    let done : a.n ≤ l.loop-k.k = omega arith in (
-      sym (ends a.f.now a.n a.limit a.p a.from a.table.now a.held.now s.requires w done),
-      stores a.f.now a.n a.limit a.p a.from a.table.now a.held.now s.requires w done,
+    let a = c.args in
+    let w = c.loop-k.invariant in
+    let done : a.n ≤ c.loop-k.k = omega arith in (
+      sym (ends a.f.now a.n a.limit a.p a.from a.table.now a.held.now c.requires w done),
+      stores a.f.now a.n a.limit a.p a.from a.table.now a.held.now c.requires w done,
     )
 
 pub overflow_add-from : goal.overflow_add-from

@@ -2,7 +2,6 @@
 use borrow.Author.Rules.{rules}
 use mathlib.Core.Path.{◌≡◌, refl, ap, ◌∙◌}
 use native.Mathlib.Omega.{arith}
-use Prim.Native.Nat.{◌-◌}
 use lib.ListN.{take, get_or, length-set}
 use Rattle.bits.specs.Lay.{lay}
 use Rattle.views.proofs.walk.Laws.{copy_more, none_copied}
