@@ -37,19 +37,17 @@ pub through-requires : goal.through-requires
 through-requires c =
     let l = c.loop-k in
     let s = c in
-    (still_near c.loop-k-test.true s.pre.1.0 s.pre.0 l.invariant.1.near, s.pre.1.1 l.k c.loop-k-test.true)
+    (still_near c.loop-k-test.true s.requires.1.0 s.requires.0 l.invariant.1.near, s.requires.1.1 l.k c.loop-k-test.true)
 
 pub returns-in-Refused : goal.returns-in-Refused
 returns-in-Refused c =
-    let t = c.through in
     let w = c in
     let l = w.loop-k in
     let s = w in
     let a = s.args in
-    let f : t.result ≡ plane.Refused c.n-1.given.0.0 = c.n-1.given.1 in
     sym
     (turns_bad (stream_plane a.dc a.bytes.now) (first_strides a.f) a.from l.k l.at l.invariant.1 (stride_by a.f l.k)
-    (omega (arith, first_length a.f s.pre.1.0, w.loop-k-test.true)) (first_at a.f s.pre.1.0 l.k w.loop-k-test.true) (sym (ap end_says f) ∙ t.ensures))
+    (omega (arith, first_length a.f s.requires.1.0, w.loop-k-test.true)) (first_at a.f s.requires.1.0 l.k w.loop-k-test.true) c.in-Refused.ensures)
 
 pub overflow_add-k : goal.overflow_add-k
 overflow_add-k c =
@@ -61,16 +59,14 @@ loop-k-smaller c = fewer_left c.loop-k-test.true
 
 pub loop-k-preserved : goal.loop-k-preserved
 loop-k-preserved c =
-    let t = c.through in
     let w = c in
     let l = w.loop-k in
     let s = w in
-    let a = s.args in
-    let f : t.result ≡ plane.At c.e-1.given.0.0 = c.e-1.given.1 in (
+    let a = s.args in (
       one_more w.loop-k-test.true,
       turns_next (stream_plane a.dc a.bytes.now) (first_strides a.f) a.from l.k l.at l.invariant.1 (stride_by a.f l.k)
-          (omega (arith, first_length a.f s.pre.1.0, w.loop-k-test.true)) (first_at a.f s.pre.1.0 l.k w.loop-k-test.true)
-          (spans a.dc a.bytes.now) (s.pre.1.1 l.k w.loop-k-test.true) (sym (ap end_says f) ∙ t.ensures),
+          (omega (arith, first_length a.f s.requires.1.0, w.loop-k-test.true)) (first_at a.f s.requires.1.0 l.k w.loop-k-test.true)
+          (spans a.dc a.bytes.now) (s.requires.1.1 l.k w.loop-k-test.true) c.in-At.ensures,
     )
 
 pub returns : goal.returns

@@ -28,20 +28,20 @@ none : (c : Else-n-gt0) → c.coding_plane-n.result ≡ 0
 none c = omega (arith, c.if-n-gt0.false)
 
 pub returns-then-n-gt0 : goal.returns-then-n-gt0
-returns-then-n-gt0 c = let s = c in refused_is (one_plane (σ_of s) (p_of s)) (b_of s) (at_of s) (asked c) c.if-n-gt0.true
+returns-then-n-gt0 c = let s = c in refused_is (one_plane (σ_of (goal.at.returns-then-n-gt0 c).Start) (p_of s)) (b_of s) (at_of s) (asked c) c.if-n-gt0.true
 
 pub plane-end-requires : goal.plane-end-requires
 plane-end-requires c =
     let e = c in
     let s = e in
-    plane_ok (σ_of s) (p_of s) (b_of s) (at_of s) (sym (asked e) ∙ none e)
+    plane_ok (σ_of (goal.at.plane-end-requires c).Start) (p_of s) (b_of s) (at_of s) (sym (asked e) ∙ none e)
 
 pub returns : goal.returns
 returns c =
     let p = c in
     let e = p in
     let s = e in
-    plane_is (σ_of s) (p_of s) (b_of s) (at_of s) (asked e) (none e) p.plane-end.ensures
+    plane_is (σ_of (goal.at.returns c).Start) (p_of s) (b_of s) (at_of s) (asked e) (none e) p.plane-end.ensures
 
 -- the call changed no buffer's length
 pub shape_of-dcs : goal.shape_of-dcs

@@ -44,20 +44,20 @@ four : (c : After-plane) → First (given (start (plane_0 (plane_1 c)))) 4 (posi
 four c = let s = start (plane_0 (plane_1 c)) in did_3 (given s) s.pre (three c) (more_3 c) c.plane.ensures
 
 pub plane-e0-requires : goal.plane-e0-requires
-plane-e0-requires c = let s = c in ask_0 (given s) s.requires
+plane-e0-requires c = let s = c in ask_0 (given (goal.at.plane-e0-requires c).Start) s.requires
 
 pub returns-then-count-lt2 : goal.returns-then-count-lt2
 returns-then-count-lt2 c =
     let p = c in
     let s = p in
-    whole (given s) s.pre 1 (less_than 0 s.pre.which.0 c.if-count-lt2.true) (one p)
+    whole (given (goal.at.returns-then-count-lt2 c).Start) s.pre 1 (less_than 0 s.pre.which.0 c.if-count-lt2.true) (one p)
 
 pub plane-e1-requires : goal.plane-e1-requires
 plane-e1-requires c =
     let e = c in
     let p = e in
     let s = p in
-    ask_1 (given s) s.pre (one p) (more_1 e)
+    ask_1 (given (goal.at.plane-e1-requires c).Start) s.pre (one p) (more_1 e)
 
 pub returns-then-count-lt3 : goal.returns-then-count-lt3
 returns-then-count-lt3 c =

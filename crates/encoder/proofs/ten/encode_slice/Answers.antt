@@ -27,20 +27,20 @@ none : (c : Else-number-gt0) → c.coding_slice-number.result ≡ 0
 none c = omega (arith, c.if-number-gt0.false)
 
 pub returns-then-number-gt0 : goal.returns-then-number-gt0
-returns-then-number-gt0 c = let s = c in refused_is (call s) (b_of s) (at_of s) (asked c) c.if-number-gt0.true
+returns-then-number-gt0 c = let s = c in refused_is (call (goal.at.returns-then-number-gt0 c).Start) (b_of s) (at_of s) (asked c) c.if-number-gt0.true
 
 pub slice-ends-requires : goal.slice-ends-requires
 slice-ends-requires c =
     let e = c in
     let s = e in
-    slice_ok (call s) (b_of s) (at_of s) (sym (asked e) ∙ none e)
+    slice_ok (call (goal.at.slice-ends-requires c).Start) (b_of s) (at_of s) (sym (asked e) ∙ none e)
 
 pub returns : goal.returns
 returns c =
     let p = c in
     let e = p in
     let s = e in
-    slice_is (call s) (b_of s) (at_of s) {b' = buffers p.slice-ends.new.1.1.1.1.1.1.0 p.slice-ends.new.1.1.1.1.1.1.1.0} (asked e) (none e) p.slice-ends.ensures
+    slice_is (call (goal.at.returns c).Start) (b_of s) (at_of s) {b' = buffers p.slice-ends.new.1.1.1.1.1.1.0 p.slice-ends.new.1.1.1.1.1.1.1.0} (asked e) (none e) p.slice-ends.ensures
 
 -- the call changed no buffer's length
 pub shape_of-dcs : goal.shape_of-dcs

@@ -22,7 +22,7 @@ pub returns-then-n-gt0 : goal.returns-then-n-gt0
 returns-then-n-gt0 c = λ depth samples h.
     let n = c in
     let a = n.args in
-    plane_no depth a.s a.h samples (given n) (from n) (n.reading_plane-n.ensures depth samples h) c.if-n-gt0.true
+    plane_no depth a.s a.h samples (given (goal.at.returns-then-n-gt0 c).After-reading_plane-n) (from (goal.at.returns-then-n-gt0 c).After-reading_plane-n) (n.reading_plane-n.ensures depth samples h) c.if-n-gt0.true
 
 -- rows of that many samples, whatever they are
 pub plane-requires : goal.plane-requires
@@ -30,7 +30,7 @@ plane-requires c =
     let e = c in
     let n = e in
     let a = n.args in
-    may_judge eight a.s a.h (replicate a.rows 0) (given n) (from n) (n.reading_plane-n.ensures eight (replicate a.rows 0) (length-replicate a.rows 0)) (none e)
+    may_judge eight a.s a.h (replicate a.rows 0) (given (goal.at.plane-requires c).After-reading_plane-n) (from (goal.at.plane-requires c).After-reading_plane-n) (n.reading_plane-n.ensures eight (replicate a.rows 0) (length-replicate a.rows 0)) (none (goal.at.plane-requires c).Else-n-gt0)
 
 pub returns-then-plane : goal.returns-then-plane
 returns-then-plane c = λ depth samples h.
@@ -38,7 +38,7 @@ returns-then-plane c = λ depth samples h.
     let e = j in
     let n = e in
     let a = n.args in
-    plane_good depth a.s a.h samples (given n) (from n) (n.reading_plane-n.ensures depth samples h) (none e) (sym c.if-plane.true ∙ j.plane.ensures a.s.shift)
+    plane_good depth a.s a.h samples (given (goal.at.returns-then-plane c).After-reading_plane-n) (from (goal.at.returns-then-plane c).After-reading_plane-n) (n.reading_plane-n.ensures depth samples h) (none (goal.at.returns-then-plane c).Else-n-gt0) (sym c.if-plane.true ∙ j.plane.ensures a.s.shift)
 
 pub returns-else-plane : goal.returns-else-plane
 returns-else-plane c = λ depth samples h.
@@ -46,4 +46,4 @@ returns-else-plane c = λ depth samples h.
     let e = j in
     let n = e in
     let a = n.args in
-    plane_bad depth a.s a.h samples (given n) (from n) (n.reading_plane-n.ensures depth samples h) (none e) (sym c.if-plane.false ∙ j.plane.ensures a.s.shift)
+    plane_bad depth a.s a.h samples (given (goal.at.returns-else-plane c).After-reading_plane-n) (from (goal.at.returns-else-plane c).After-reading_plane-n) (n.reading_plane-n.ensures depth samples h) (none (goal.at.returns-else-plane c).Else-n-gt0) (sym c.if-plane.false ∙ j.plane.ensures a.s.shift)

@@ -32,7 +32,7 @@ none c = omega (arith, c.if-n-gt0.false)
 pub returns-then-n-gt0 : goal.returns-then-n-gt0
 returns-then-n-gt0 c = λ depth p0 p1 p2 p3 h0 h1 h2 h3.
     let n = c in
-    slice_no (given n depth p0 p1 p2 p3) (n.reading_slice-n.ensures depth p0 p1 p2 p3 h0 h1 h2 h3) c.if-n-gt0.true
+    slice_no (given (goal.at.returns-then-n-gt0 c).After-reading_slice-n depth p0 p1 p2 p3) (n.reading_slice-n.ensures depth p0 p1 p2 p3 h0 h1 h2 h3) c.if-n-gt0.true
 
 -- rows of that many samples, whatever they are
 pub slice-requires : goal.slice-requires
@@ -43,17 +43,17 @@ slice-requires c =
     let p1 : List ℕ = replicate (get_or l 1 0) 0 in
     let p2 : List ℕ = replicate (get_or l 2 0) 0 in
     let p3 : List ℕ = replicate (get_or l 3 0) 0 in
-    may_judge (given n eight p0 p1 p2 p3)
-    (n.reading_slice-n.ensures eight p0 p1 p2 p3 (length-replicate (get_or l 0 0) 0) (length-replicate (get_or l 1 0) 0) (length-replicate (get_or l 2 0) 0) (length-replicate (get_or l 3 0) 0)) (none c)
+    may_judge (given (goal.at.slice-requires c).After-reading_slice-n eight p0 p1 p2 p3)
+    (n.reading_slice-n.ensures eight p0 p1 p2 p3 (length-replicate (get_or l 0 0) 0) (length-replicate (get_or l 1 0) 0) (length-replicate (get_or l 2 0) 0) (length-replicate (get_or l 3 0) 0)) (none (goal.at.slice-requires c).Else-n-gt0)
 
 pub returns-then-slice : goal.returns-then-slice
 returns-then-slice c = λ depth p0 p1 p2 p3 h0 h1 h2 h3.
     let j = c in
     let n = j in
-    slice_good (given n depth p0 p1 p2 p3) (n.reading_slice-n.ensures depth p0 p1 p2 p3 h0 h1 h2 h3) (none j) j.slice.ensures c.if-slice.true
+    slice_good (given (goal.at.returns-then-slice c).After-reading_slice-n depth p0 p1 p2 p3) (n.reading_slice-n.ensures depth p0 p1 p2 p3 h0 h1 h2 h3) (none (goal.at.returns-then-slice c).Else-n-gt0) j.slice.ensures c.if-slice.true
 
 pub returns-else-slice : goal.returns-else-slice
 returns-else-slice c = λ depth p0 p1 p2 p3 h0 h1 h2 h3.
     let j = c in
     let n = j in
-    slice_bad (given n depth p0 p1 p2 p3) (n.reading_slice-n.ensures depth p0 p1 p2 p3 h0 h1 h2 h3) (none j) j.slice.ensures c.if-slice.false
+    slice_bad (given (goal.at.returns-else-slice c).After-reading_slice-n depth p0 p1 p2 p3) (n.reading_slice-n.ensures depth p0 p1 p2 p3 h0 h1 h2 h3) (none (goal.at.returns-else-slice c).Else-n-gt0) j.slice.ensures c.if-slice.false
