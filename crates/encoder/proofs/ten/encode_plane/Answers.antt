@@ -5,12 +5,9 @@ use Rattle.calls.specs.Arguments.{ten, Settings, Plane, one_plane, PerStream, Bu
 use Rattle.calls.specs.Views.{settings_by, plane_by, positions_by}
 use Rattle.encoder.proofs.Answers.{number, refused_is, plane_ok, plane_is}
 use Rattle.encoder.proofs.ten.encode_plane.Goals as goal
-use Rattle.encoder.proofs.ten.encode_plane.Goals.{After-coding_plane-n, Else-n-gt0, Start}
+use Rattle.encoder.proofs.ten.encode_plane.Goals.{After-coding_plane-n, Start}
 
 -- what the call was given
-abbrev start : After-coding_plane-n → Start
-start c = c.before.before.before.before
-
 abbrev σ_of : Start → Settings
 σ_of s = settings_by ten s.args.s
 
@@ -24,35 +21,31 @@ abbrev at_of : Start → PerStream
 at_of s = positions_by s.args.at
 
 -- the number is that of the call's first "no"
-asked : (c : After-coding_plane-n) → let s = start c in c.coding_plane-n.result ≡ number (one_plane (σ_of s) (p_of s)) (b_of s) (at_of s)
-asked c = c.coding_plane-n.ensures ten (start c).args.rows.now refl
-
--- no question was answered "no"
-none : (c : Else-n-gt0) → c.before.coding_plane-n.result ≡ 0
-none c = omega (arith, c.if-n-gt0.false)
+asked : (c : After-coding_plane-n) → let a = c.args in
+    c.coding_plane-n.result ≡ number (one_plane (settings_by ten a.s) (plane_by a.h a.rows.now)) (buffers a.dcs.now a.acs.now) (positions_by a.at)
+asked c = c.coding_plane-n.ensures ten c.args.rows.now refl
 
 pub returns-then-n-gt0 : goal.returns-then-n-gt0
-returns-then-n-gt0 c = let s = start c.before in refused_is (one_plane (σ_of s) (p_of s)) (b_of s) (at_of s) (asked c.before) c.if-n-gt0.true
+returns-then-n-gt0 c =
+    let s = (goal.at.returns-then-n-gt0 c).Start in
+    refused_is (one_plane (σ_of s) (p_of s)) (b_of s) (at_of s) (asked (goal.at.returns-then-n-gt0 c).After-coding_plane-n) c.if-n-gt0.true
 
+-- no question was answered "no"
 pub plane-end-requires : goal.plane-end-requires
 plane-end-requires c =
-    let e = c.before.before in
-    let s = start e.before in
-    plane_ok (σ_of s) (p_of s) (b_of s) (at_of s) (sym (asked e.before) ∙ none e)
+    let s = (goal.at.plane-end-requires c).Start in
+    let none : c.coding_plane-n.result ≡ 0 = omega (arith, c.if-n-gt0.false) in
+    plane_ok (σ_of s) (p_of s) (b_of s) (at_of s) (sym (asked (goal.at.plane-end-requires c).After-coding_plane-n) ∙ none)
 
 pub returns : goal.returns
 returns c =
-    let p = c.before.before.before.before in
-    let e = p.before.before.before in
-    let s = start e.before in
-    plane_is (σ_of s) (p_of s) (b_of s) (at_of s) (asked e.before) (none e) p.plane-end.ensures
+    let s = (goal.at.returns c).Start in
+    let none : c.coding_plane-n.result ≡ 0 = omega (arith, c.if-n-gt0.false) in
+    plane_is (σ_of s) (p_of s) (b_of s) (at_of s) (asked (goal.at.returns c).After-coding_plane-n) none c.plane-end.ensures
 
 -- the call changed no buffer's length
 pub shape_of-dcs : goal.shape_of-dcs
-shape_of-dcs c = c.before.before.before.before.plane-end.auto.1.1.1.0
+shape_of-dcs c = c.plane-end.auto.dcs
 
 pub shape_of-acs : goal.shape_of-acs
-shape_of-acs c = c.before.before.before.before.plane-end.auto.1.1.1.1.0
-
-pub coding_plane-n-requires : goal.coding_plane-n-requires
-coding_plane-n-requires c = tt
+shape_of-acs c = c.plane-end.auto.acs
