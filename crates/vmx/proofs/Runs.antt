@@ -5,7 +5,7 @@ use Prim.Native.Nat.{ℕ, zero, suc}
 use native.Mathlib.Omega.{arith}
 use lib.ListN.{length}
 use contract.Lifetimes.{Lfts}
-use denote.Ref.{Bor}
+use denote.Ref.{Bor, MutBor}
 use Rattle.ask.specs.Ask.{first_no}
 use Rattle.calls.specs.Arguments.{Depth, eight, ten, Settings, Rows, Plane, Call, one_plane, one_slice, settings_of, planes_lent, planes_of, PerStream, Buffers, lengths_of, settings}
 use Rattle.calls.specs.ReadPlane.{BlockRead}
@@ -14,14 +14,20 @@ use Rattle.slice.specs.Calls.{encode, PlanesRead, bad_planes, planes_read, read_
 use Rattle.slice.specs.CallLists.{Coding, coded_none, coded_then, Reading, read_none, read_then}
 use Rattle.slice.proofs.Runs.{encode_all, decode_all}
 use Rattle.vmx.proofs.Steps.{Streams, FourRows, Codes, codes_plane8, codes_plane10, codes_slice8, codes_slice10}
-use Rattle.vmx.proofs.ReadSteps.{Reads, reads_plane8, reads_plane10, reads_slice8, reads_slice10}
+use Rattle.vmx.proofs.ReadSteps.{ReadStreams, FourOut, Reads, reads_plane8, reads_plane10, reads_slice8, reads_slice10}
 
 -- ---- lent values
 abbrev lent : {X : Type 0} → X → Bor X
 lent x = record { ref_ptr = (0, 0); now = x }
 
+abbrev lent_out : {X : Type 0} → X → MutBor X
+lent_out x = record { ref_ptr = (0, 0); ghost_name = 0; now = x }
+
 abbrev streams : Buffers → PerStream → Streams
-streams b at = record { dc = lent b.dc_bytes; dc_at = lent at.dc; ac = lent b.ac_bytes; ac_at = lent at.ac }
+streams b at = record { dc = lent_out b.dc_bytes; dc_at = lent_out at.dc; ac = lent_out b.ac_bytes; ac_at = lent_out at.ac }
+
+abbrev read_streams : Buffers → PerStream → ReadStreams
+read_streams b at = record { dc = lent b.dc_bytes; dc_at = lent_out at.dc; ac = lent b.ac_bytes; ac_at = lent_out at.ac }
 
 abbrev five : Lfts 5
 five = ([], ([], ([], ([], ([], tt)))))
@@ -39,6 +45,19 @@ four_rows p q r s =
       p2 = lent r.samples;
       stride2 = r.stride;
       p3 = lent s.samples;
+      stride3 = s.stride;
+    }
+
+abbrev four_out : Rows → Rows → Rows → Rows → FourOut
+four_out p q r s =
+    record {
+      p0 = lent_out p.samples;
+      stride0 = p.stride;
+      p1 = lent_out q.samples;
+      stride1 = q.stride;
+      p2 = lent_out r.samples;
+      stride2 = r.stride;
+      p3 = lent_out s.samples;
       stride3 = s.stride;
     }
 
@@ -113,16 +132,16 @@ abbrev with_rows : Decoded → List (List ℕ) → Decoded
 with_rows e l = record { number = e.number; at = e.at; rows = l }
 
 -- the rows of a slice's planes at exit
-abbrev rows_after : Rows → Rows → Rows → Rows → List (List ℕ) → FourRows
+abbrev rows_after : Rows → Rows → Rows → Rows → List (List ℕ) → FourOut
 rows_after p q r s l =
     record {
-      p0 = lent (nth 0 l);
+      p0 = lent_out (nth 0 l);
       stride0 = p.stride;
-      p1 = lent (nth 1 l);
+      p1 = lent_out (nth 1 l);
       stride1 = q.stride;
-      p2 = lent (nth 2 l);
+      p2 = lent_out (nth 2 l);
       stride2 = r.stride;
-      p3 = lent (nth 3 l);
+      p3 = lent_out (nth 3 l);
       stride3 = s.stride;
     }
 
@@ -133,13 +152,13 @@ plane_reads eight preset shift p b at =
     let e = decode (one_plane (settings eight preset shift) p) b at in
     let h = ap (with_rows e) (one_row e.rows (as_lent c b at)) in
     subst (Reads c b at) h
-    (reads_plane8 five (lent p.samples) p.stride p.place preset shift (streams b at) e.number (lent (nth 0 e.rows)) (streams b e.at) h)
+    (reads_plane8 five (lent_out p.samples) p.stride p.place preset shift (read_streams b at) e.number (lent_out (nth 0 e.rows)) (read_streams b e.at) h)
 plane_reads ten preset shift p b at =
     let c = one_plane (settings ten preset shift) p in
     let e = decode (one_plane (settings ten preset shift) p) b at in
     let h = ap (with_rows e) (one_row e.rows (as_lent c b at)) in
     subst (Reads c b at) h
-    (reads_plane10 five (lent p.samples) p.stride p.place preset shift (streams b at) e.number (lent (nth 0 e.rows)) (streams b e.at) h)
+    (reads_plane10 five (lent_out p.samples) p.stride p.place preset shift (read_streams b at) e.number (lent_out (nth 0 e.rows)) (read_streams b e.at) h)
 
 slice_reads : (d : Depth) (preset shift count : ℕ) (p q r s : Rows) (b : Buffers) (at : PerStream)
     → let c = one_slice (settings d preset shift) count p q r s in Reads c b at (decode c b at)
@@ -148,13 +167,13 @@ slice_reads eight preset shift count p q r s b at =
     let e = decode (one_slice (settings eight preset shift) count p q r s) b at in
     let h = ap (with_rows e) (four_rows_lem e.rows (as_lent c b at)) in
     subst (Reads c b at) h
-    (reads_slice8 eight_lifetimes (four_rows p q r s) count preset shift (streams b at) e.number (rows_after p q r s e.rows) (streams b e.at) h)
+    (reads_slice8 eight_lifetimes (four_out p q r s) count preset shift (read_streams b at) e.number (rows_after p q r s e.rows) (read_streams b e.at) h)
 slice_reads ten preset shift count p q r s b at =
     let c = one_slice (settings ten preset shift) count p q r s in
     let e = decode (one_slice (settings ten preset shift) count p q r s) b at in
     let h = ap (with_rows e) (four_rows_lem e.rows (as_lent c b at)) in
     subst (Reads c b at) h
-    (reads_slice10 eight_lifetimes (four_rows p q r s) count preset shift (streams b at) e.number (rows_after p q r s e.rows) (streams b e.at) h)
+    (reads_slice10 eight_lifetimes (four_out p q r s) count preset shift (read_streams b at) e.number (rows_after p q r s e.rows) (read_streams b e.at) h)
 
 pub every_call_reads : (c : Call) (b : Buffers) (at : PerStream) → Reads c b at (decode c b at)
 every_call_reads (one_plane σ p) b at = plane_reads σ.depth σ.preset σ.shift p b at

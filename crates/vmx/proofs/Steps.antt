@@ -3,7 +3,7 @@
 use mathlib.Core.List.{List}
 use Prim.Native.Nat.{ℕ}
 use contract.Lifetimes.{Lfts}
-use denote.Ref.{Bor}
+use denote.Ref.{Bor, MutBor}
 use Rattle.calls.specs.Arguments.{Settings, eight, ten, Call, one_plane, one_slice, PerStream, Buffers, settings, plane, rows, buffers, positions}
 use Rattle.slice.specs.Calls.{Coded}
 use Rattle.outs.specs.plane.Planes.{coded_as}
@@ -14,10 +14,10 @@ use Rattle.vmx.proofs.ten.vmx_encode_slice10.Reads as encode-slice10
 
 -- the two buffers and the two positions, as they are lent
 pub record Streams : Type 0 where
-  pub dc : Bor (List ℕ)
-  pub dc_at : Bor ℕ
-  pub ac : Bor (List ℕ)
-  pub ac_at : Bor ℕ
+  pub dc : MutBor (List ℕ)
+  pub dc_at : MutBor ℕ
+  pub ac : MutBor (List ℕ)
+  pub ac_at : MutBor ℕ
 
 abbrev pub bytes_in : Streams → Buffers
 bytes_in s = buffers s.dc.now s.ac.now
