@@ -3,14 +3,7 @@ use Rattle.builder.proofs.streams.Laws.{dc_limit, ac_limit}
 use Rattle.builder.proofs.streams.limit_for.Goals as goal
 
 pub returns-in-Dc : goal.returns-in-Dc
-<<<<<<< HEAD
-returns-in-Dc c = dc_limit c.before.args.width c.before.enum_told-1.given.1 c.max_dc_len.ensures
-
-pub returns-in-Ac : goal.returns-in-Ac
-returns-in-Ac c = ac_limit c.before.args.width c.before.in-Ac.given.1 c.max_ac_len.ensures
-=======
 returns-in-Dc c = dc_limit c.args.width c.in-Dc.is c.max_dc_len.ensures
 
 pub returns-in-Ac : goal.returns-in-Ac
 returns-in-Ac c = ac_limit c.args.width c.in-Ac.is c.max_ac_len.ensures
->>>>>>> ff501e07f7101cec71b885f012b7814ff8bcb70a
