@@ -7,5 +7,5 @@ pub returns : goal.returns
 returns c =
     let v = c in
     let a = v.args in
-    c.header_out.ensures a.out.now _ (header_of a.width a.height (is_on a.interlaced) a.quality a.dc-shift a.out.now a.at.now)
+    c.header_out.ensures a.out.now _ (header_of a.width a.height (is_on a.interlaced) a.quality a.dc_shift a.out.now a.at.now)
     v.start_frame-r.ensures

@@ -7,5 +7,5 @@ pub returns : goal.returns
 returns c =
     let v = c in
     let a = v.args in
-    let was = frame_places a.interlaced.now a.quality.now a.dc-shift.now a.header-len.now a.ac.now in
+    let was = frame_places a.interlaced.now a.quality.now a.dc_shift.now a.header_len.now a.ac.now in
     streams_handed was c.frame_out.ensures v.all_views-r.ensures
