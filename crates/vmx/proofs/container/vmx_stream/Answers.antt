@@ -9,4 +9,4 @@ returns c =
     let v = c in
     let a = v.args in
     let q = v.view_at-r.ensures ∙ ap (λ (x : Bool). view_of a.width a.height a.frame.now x a.slice) v.kind_of-kind.ensures in
-    rw (← q) c.View-out.ensures
+    rw (← q) c.view_out.ensures
