@@ -1,4 +1,4 @@
--- Lists of coding calls: demand 3's coding half, of the exported functions by their own contracts.
+-- Lists of coding calls: demand 3's coding half, of the calls' functions by their own contracts.
 use mathlib.Core.Path.{◌≡◌}
 use mathlib.Core.List.{List}
 use Rattle.calls.specs.Arguments.{Call, PerStream, Buffers}

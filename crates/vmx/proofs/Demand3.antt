@@ -1,4 +1,4 @@
--- Demand 3, whole: of the exported coding and reading functions, by their own contracts. The claim is crates/slice/specs/Demand3.antt.
+-- Demand 3, whole: of the coding and reading functions, by their own contracts, which their exports in vmx_c state again. The claim is crates/slice/specs/Demand3.antt.
 use mathlib.Core.Path.{◌≡◌}
 use Rattle.calls.specs.Arguments.{Call, PerStream, Buffers}
 use Rattle.slice.specs.Calls.{Decoded, decode}

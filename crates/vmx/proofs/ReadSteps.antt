@@ -1,4 +1,4 @@
--- What one reading call does to what it is lent, as a step of the lists of calls: the contract of the exported function itself, as in Steps.
+-- What one reading call does to what it is lent, as a step of the lists of calls: the contract of the call's function itself, as in Steps.
 use mathlib.Core.List.{List, [], ◌∷◌}
 use Prim.Native.Nat.{ℕ}
 use contract.Lifetimes.{Lfts}

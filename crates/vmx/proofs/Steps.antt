@@ -1,5 +1,5 @@
--- What one call does to what it is lent, as a step of the lists of calls: the contract of the exported function itself. These are
--- definitions; they stand here because a function's contract cannot be named in specs/ of its own crate.
+-- What one call does to what it is lent, as a step of the lists of calls: the contract of the call's function itself,
+-- whose clauses its export in vmx_c states again. These are definitions; they stand here because a function's contract cannot be named in specs/ of its own crate.
 use mathlib.Core.List.{List}
 use Prim.Native.Nat.{ℕ}
 use contract.Lifetimes.{Lfts}

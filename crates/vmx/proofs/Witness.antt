@@ -1,4 +1,4 @@
--- Demand 3 says something of the exported functions: four 10-bit planes that they code are read back by them, with bytes appended to both
+-- Demand 3 says something of the calls' functions: four 10-bit planes that they code are read back by them, with bytes appended to both
 -- streams and refused calls between. The lists are those of crates/slice/proofs/examples/WitnessTen.antt.
 use mathlib.Core.Path.{subst}
 use Rattle.calls.specs.Arguments.{Buffers}
