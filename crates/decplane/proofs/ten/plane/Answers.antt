@@ -13,12 +13,12 @@ use Rattle.decplane.proofs.Loops.{Behind, begun, as_long, asks, inside, corner_s
 use Rattle.decplane.proofs.ten.plane.Goals as goal
 use Rattle.decplane.proofs.ten.plane.Goals.{After-begin-stand, After-corner-c, After-next-1, After-paint, At-loop-j, In-loop-k, Start}
 
--- the blocks so far in a of the outer loop
+-- the blocks so far in a turn of the outer loop
 behind : (l : At-loop-j) → let a = l.args in
     Behind (settings_by ten a.s) (plane_by a.h a.rows.now) (buffers a.dc.now a.ac.now) (positions_by a.at) l.loop-j.j 0 l.loop-j.stand l.loop-j.rows
 behind l = let s = l in l.loop-j.invariant.1 (positions_by s.args.at) s.requires (begun l.begin-stand.result l.begin-stand.ensures)
 
--- the blocks so far in a of the inner loop
+-- the blocks so far in a turn of the inner loop
 sofar : (c : In-loop-k) → let l2 = c in let l = l2 in let a = l.args in
     Behind (settings_by ten a.s) (plane_by a.h a.rows.now) (buffers a.dc.now a.ac.now) (positions_by a.at) l.loop-j.j l2.loop-k.k l2.loop-k.stand l2.loop-k.rows
 sofar c = c.loop-k.invariant.1 (positions_by c.args.at) c.args.rows.now c.requires (c.loop-j.invariant.1 (positions_by c.args.at) c.requires (begun c.begin-stand.result c.begin-stand.ensures))
