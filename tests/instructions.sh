@@ -39,14 +39,14 @@ while read -r what margin; do
     echo "instructions: $what: ours $ours, the Rust $rust, $hundredths of 100 (at most $margin)"
     [ "$hundredths" -le "$margin" ] || { echo "instructions: $what takes too many"; exit 1; }
 done <<'TABLE'
-code8-smooth-8 71
-code8-mixed-8 60
-code8-dense-8 57
-code10-smooth-8 71
-code10-mixed-8 60
-code10-dense-8 56
+code8-smooth-8 74
+code8-mixed-8 65
+code8-dense-8 62
+code10-smooth-8 74
+code10-mixed-8 64
+code10-dense-8 62
 read8-smooth-0 59
-read8-smooth-8 70
+read8-smooth-8 73
 read8-mixed-0 90
 read8-mixed-8 66
 read8-dense-0 93
@@ -60,6 +60,6 @@ read10-dense-8 55
 preview 84
 report 35
 parse 48
-streams 70
+streams 73
 build 200
 TABLE
