@@ -10,7 +10,7 @@ use Rattle.bitreader.specs.declared.Got.{Got}
 use Rattle.calls.specs.ReadPlane.{read_places}
 use Rattle.acread.specs.Block.{span_of, ends_of, BlockEnded}
 use Rattle.acread.specs.Going.{Going}
-use Rattle.acread.specs.declared.BlockEnd.TheVariants as end
+use Rattle.std.specs.Prelude.{Some, None}
 use Rattle.acread.proofs.Turn.{start, turn, stop, over}
 
 pub going_start : (s : List ℕ) (c : AcCursor) (r : ℕ) → At s c → r < 2 ^ 57 → Going s c.pos r c r
@@ -39,23 +39,22 @@ going_turn s p r c place g {w} i b n z e =
       few = omega arith;
     }
 
-pub going_bad : (s : List ℕ) (p r : ℕ) (c : AcCursor) (place : ℕ) (g : Got) → Going s p r c place → place < 64 → NextSymbol s c g → g.num ≡ 0 → BlockEnded s p r end.Bad
+pub going_bad : (s : List ℕ) (p r : ℕ) (c : AcCursor) (place : ℕ) (g : Got) → Going s p r c place → place < 64 → NextSymbol s c g → g.num ≡ 0 → BlockEnded s p r None
 going_bad s p r c place g i b n z =
     record {
       answer = sym (i.same ∙ stop (bit_at s) place c.pos g.num g.run g.c.pos b z n.answer);
-      ready = λ d m e. absurd (let x : ◌≡◌ {A = ℕ} 0 1 = cc in omega arith);
+      ready = λ d e. absurd (let x : ◌≡◌ {A = ℕ} 0 1 = cc in omega arith);
     }
 
-pub going_over : (s : List ℕ) (p r : ℕ) (c : AcCursor) (place : ℕ) → Going s p r c place → 64 ≤ place → BlockEnded s p r (end.At c (place - 64))
+pub going_over : (s : List ℕ) (p r : ℕ) (c : AcCursor) (place : ℕ) → Going s p r c place → 64 ≤ place → BlockEnded s p r (Some (record { c = c; pending = place - 64 }))
 going_over s p r c place i b =
     record {
       answer = sym (i.same ∙ over (bit_at s) place c.pos b);
-      ready = λ d m e.
-          let x : c ≡ d = cc in
-          let y : place - 64 ≡ m = cc in
-          rw (← x, ← y) (record { holds = i.holds; near = i.near; few = omega (arith, i.few) });
+      ready = λ d e.
+          let x : record { c = c; pending = place - 64 } ≡ d = cc in
+          rw (← x) (record { holds = i.holds; near = i.near; few = omega (arith, i.few) });
     }
 
 -- a block that the zeros still to come fill
-pub flat_ended : (s : List ℕ) (c : AcCursor) (r : ℕ) → At s c → r < 2 ^ 57 → 64 ≤ r → BlockEnded s c.pos r (end.At c (r - 64))
+pub flat_ended : (s : List ℕ) (c : AcCursor) (r : ℕ) → At s c → r < 2 ^ 57 → 64 ≤ r → BlockEnded s c.pos r (Some (record { c = c; pending = r - 64 }))
 flat_ended s c r a f b = going_over s c.pos r c r (going_start s c r a f) b

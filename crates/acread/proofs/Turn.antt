@@ -1,12 +1,12 @@
 -- Place by place, and symbol by symbol: a run of n at a place is n zeros, cut where the block ends, the rest carried on; a value is one place.
-use mathlib.Core.Path.{◌≡◌, refl, sym, ap, ap₂, ◌∙◌}
+use mathlib.Core.Path.{◌≡◌, refl, ap, ap₂, ◌∙◌}
 use Prim.Native.Nat.{ℕ, zero, suc, ◌+◌, ◌-◌, ◌≤◌, ◌<◌}
 use native.Mathlib.Omega.{arith}
 use lib.IntN.{ℤ, pos}
 use Rattle.bits.specs.Bits.{Stream}
-use Rattle.bits.specs.Read.{Symbol, bad_symbol, run, value, read_symbol}
+use Rattle.bits.specs.Read.{bad_symbol, run, value, read_symbol}
 use Rattle.bitreader.specs.Cursor.{symbol_by}
-use Rattle.calls.specs.ReadPlane.{Places, bad_places, places, place_then, by_symbol, read_places}
+use Rattle.calls.specs.ReadPlane.{Places, bad_places, places, place_then, read_places}
 use Rattle.acread.specs.Block.{span_of, Ends, bad_ends, ends, ends_of}
 
 then_ends : (c : ℤ) (x : Places) → ends_of (place_then c x) ≡ ends_of x

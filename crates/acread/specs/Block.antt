@@ -1,11 +1,10 @@
 -- Where reading a block's places ends. Document 01, 'Plane and slice'.
-use Rattle.std.specs.Prelude.{◌≡◌, not, cond, List, ℕ, zero, suc, ◌+◌, ◌^◌, ◌≤◌, ◌<◌, ltb}
+use Rattle.std.specs.Prelude.{◌≡◌, not, cond, List, Option, Some, None, ℕ, zero, suc, ◌+◌, ◌^◌, ◌≤◌, ◌<◌, ltb}
 use Rattle.bits.specs.Bits.{bit_at}
 use Rattle.bitreader.specs.Cursor.{At}
 use Rattle.bitreader.specs.declared.AcCursor.{AcCursor}
 use Rattle.calls.specs.ReadPlane.{Places, bad_places, places, read_places}
 use Rattle.acread.specs.declared.BlockEnd.{BlockEnd}
-use Rattle.acread.specs.declared.BlockEnd.TheVariants as end
 
 -- the places of a symbol, by its head bit and its number
 abbrev pub span_of : ℕ → ℕ → ℕ
@@ -25,9 +24,9 @@ abbrev pub ends_of : Places → Ends
 ends_of bad_places = bad_ends
 ends_of (places cs q r) = ends q r
 
-abbrev pub block_says : BlockEnd → Ends
-block_says (end.At c n) = ends c.pos n
-block_says end.Bad = bad_ends
+abbrev pub block_says : Option BlockEnd → Ends
+block_says (Some e) = ends e.c.pos e.pending
+block_says None = bad_ends
 
 -- a cursor after the block at p: at most 64 codes of 112 bits were read
 pub record AcReady (s : List ℕ) (p : ℕ) (c : AcCursor) (n : ℕ) : Type 0 where
@@ -35,6 +34,6 @@ pub record AcReady (s : List ℕ) (p : ℕ) (c : AcCursor) (n : ℕ) : Type 0 wh
   pub near : c.pos ≤ p + 7168
   pub few : n < 2 ^ 57
 
-pub record BlockEnded (s : List ℕ) (p r : ℕ) (e : BlockEnd) : Type 0 where
-  pub answer : block_says e ≡ ends_of (read_places 64 (bit_at s) p r)
-  pub ready : (c : AcCursor) (n : ℕ) → e ≡ end.At c n → AcReady s p c n
+pub record BlockEnded (s : List ℕ) (p r : ℕ) (o : Option BlockEnd) : Type 0 where
+  pub answer : block_says o ≡ ends_of (read_places 64 (bit_at s) p r)
+  pub ready : (e : BlockEnd) → o ≡ Some e → AcReady s p e.c e.pending

@@ -12,9 +12,9 @@ use bitreader::AcCursor;
 
 // Where a block's places end: the cursor after the last code, and the zeros of its run that are still to come.
 #[derive(Clone, Copy)]
-pub enum BlockEnd {
-    At(AcCursor, u64),
-    Bad,
+pub struct BlockEnd {
+    pub c: AcCursor,
+    pub pending: u64,
 }
 
 // Within a block: the cursor, and the place that the next symbol is for.
@@ -57,9 +57,9 @@ fn by_table(a: Stop, least: u32, tab: &[u32]) -> Stop
     Stop { c, place }
 }
 
-// Reads the symbols of one block, after `pending` zeros, and keeps none of their values. What is read does not depend on `least`,
-// the bits that a word must have to be looked up in the table.
-pub fn skip_block(s: &[u8], c0: AcCursor, pending: u64, least: u32, tab: &[u32]) -> BlockEnd
+// Reads the symbols of one block, after `pending` zeros, and keeps none of their values; nothing at a bad code. What is read does not
+// depend on `least`, the bits that a word must have to be looked up in the table.
+pub fn skip_block(s: &[u8], c0: AcCursor, pending: u64, least: u32, tab: &[u32]) -> Option<BlockEnd>
     requires { At s.now c0 × (c0.pos < 2 ^ 59) × (pending < 2 ^ 57) × LooksFrom least tab.now }
     ensures { BlockEnded s.now c0.pos pending result }
 {
@@ -74,10 +74,13 @@ pub fn skip_block(s: &[u8], c0: AcCursor, pending: u64, least: u32, tab: &[u32])
         }
         let g = bitreader::next_symbol(s, c);
         if g.num == 0 {
-            return BlockEnd::Bad;
+            return None;
         }
         c = g.c;
         place += span(g.run, g.num);
     }
-    BlockEnd::At(c, place - 64)
+    Some(BlockEnd {
+        c,
+        pending: place - 64,
+    })
 }

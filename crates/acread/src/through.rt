@@ -6,68 +6,48 @@ ghost use Rattle.calls.specs.ReadPlane.{read_steps, read_blocks};
 ghost use Rattle.acread.specs.through.Codes.{good_steps, dc_end};
 ghost use Rattle.acread.specs.through.Through.{block_ends, good_ends, ac_end, end_says};
 
-use crate::BlockEnd;
 use acpairs::LOOK;
-use ask::numbers::NO_CODE;
+use ask::Refusal;
 
-// Where a plane ends: the byte after its stream, or the number of a refusal.
-#[derive(Clone, Copy)]
-pub enum PlaneEnd {
-    At(usize),
-    Refused(u32),
-}
-
-// Reads a plane's DC stream through: two rows of codes, left at the first bad one.
-pub fn through_dc(dc: &[u8], at: usize, columns: usize) -> PlaneEnd
+// Reads a plane's DC stream through, to the byte after it: two rows of codes, left at the first bad one.
+pub fn through_dc(dc: &[u8], at: usize, columns: usize) -> Result<usize, Refusal>
     requires { (at < 2 ^ 31) × (columns ≤ 960) }
     ensures { end_says result ≡ dc_end (read_steps (2 * columns) (bit_at dc.now) (8 * at)) }
 {
     let mut c = bitreader::cursor(dc, 8 * at);
-    let mut number: u32 = 0;
-    'codes: for j in 0usize..2 {
-        for k in 0..columns {
-            let g = bitreader::next_dc(dc, c);
-            if g.num == 0 {
-                number = NO_CODE;
-                break 'codes;
+    'codes: {
+        for row in 0usize..2 {
+            for k in 0..columns {
+                let g = bitreader::next_dc(dc, c);
+                if g.num == 0 {
+                    break 'codes Err(Refusal::Code);
+                }
+                c = g.c;
             }
-            c = g.c;
         }
-    }
-    if number != 0 {
-        PlaneEnd::Refused(number)
-    } else {
-        PlaneEnd::At(bitreader::end_byte(c))
+        Ok(bitreader::end_byte(c))
     }
 }
 
-// Reads a plane's AC stream through: two rows of blocks, left at the first bad code.
-pub fn through_ac(ac: &[u8], at: usize, columns: usize) -> PlaneEnd
+// Reads a plane's AC stream through, to the byte after it: two rows of blocks, left at the first bad code.
+pub fn through_ac(ac: &[u8], at: usize, columns: usize) -> Result<usize, Refusal>
     requires { (at < 2 ^ 31) × (columns ≤ 960) }
     ensures { end_says result ≡ ac_end (read_blocks (2 * columns) (bit_at ac.now) (8 * at) 0) }
 {
     let tab = acpairs::looks();
     let mut c = bitreader::cursor(ac, 8 * at);
     let mut pending: u64 = 0;
-    let mut number: u32 = 0;
-    'rows: for j in 0usize..2 {
-        for k in 0..columns {
-            match crate::skip_block(ac, c, pending, LOOK, &tab) {
-                BlockEnd::At(d, n) => {
-                    c = d;
-                    pending = n;
-                }
-                BlockEnd::Bad => {
-                    number = NO_CODE;
-                    break 'rows;
-                }
+    'blocks: {
+        for j in 0usize..2 {
+            for k in 0..columns {
+                let Some(end) = crate::skip_block(ac, c, pending, LOOK, &tab) else {
+                    break 'blocks Err(Refusal::Code);
+                };
+                c = end.c;
+                pending = end.pending;
             }
         }
-    }
-    if number != 0 {
-        PlaneEnd::Refused(number)
-    } else {
-        PlaneEnd::At(bitreader::end_byte(c))
+        Ok(bitreader::end_byte(c))
     }
 }
 
@@ -79,10 +59,7 @@ pub fn dc_good(dc: &[u8], at: usize, columns: usize) -> bool
     if bitreader::scan::no_six_zeros(dc, at) {
         return true;
     }
-    match through_dc(dc, at, columns) {
-        PlaneEnd::At(e) => true,
-        PlaneEnd::Refused(n) => false,
-    }
+    through_dc(dc, at, columns).is_ok()
 }
 
 // The same of a plane's AC stream.
@@ -93,8 +70,5 @@ pub fn ac_good(ac: &[u8], at: usize, columns: usize) -> bool
     if bitreader::scan::no_six_zeros(ac, at) {
         return true;
     }
-    match through_ac(ac, at, columns) {
-        PlaneEnd::At(e) => true,
-        PlaneEnd::Refused(n) => false,
-    }
+    through_ac(ac, at, columns).is_ok()
 }

@@ -1,3 +1,4 @@
 pub mod Ask
 pub mod Numbers
 pub mod Limits
+pub mod Refusals

@@ -1,38 +1,18 @@
-// The questions of document 01: their numbers, their limits, and how they are answered one by one.
-// Each call answers its own questions in their order and gives the number of the first "no" (`or_else`).
+// The questions of document 01: what a "no" refuses with, their limits, and how they are answered one by one.
+// Each call puts its own questions in their order and ends with the refusal of the first "no" (`ask` and `?`).
 #![tactic(auto)]
 
 pub mod limits;
-pub mod numbers;
+pub mod refusal;
 
 ghost use Rattle.std.specs.Prelude.{◌≡◌, ◌&&◌, ◌+◌, ◌*◌, ◌<◌, leb};
-ghost use Rattle.ask.specs.Ask.{or_else};
 ghost use Rattle.ask.specs.Limits.{preset_ok, shift_ok, place_ok, count_ok, stride_ok, rows_needed, start_ok, dc_read_ok, ac_read_ok};
 
+pub use crate::refusal::{Refusal, ask, number_given};
 use limits::{
     AC_READ_MAX, DC_READ_MAX, PLACE_MAX, PLANES_MAX, PRESET_MAX, ROWS, SHIFT_MAX, START_MAX,
     STRIDE_MAX,
 };
-
-// The number of a "no", or what the questions behind it give.
-pub fn or_else(yes: bool, number: u32, rest: u32) -> u32
-    ensures { result ≡ or_else yes number rest }
-{
-    if yes {
-        return rest;
-    }
-    number
-}
-
-// Both answers are yes.
-pub fn both(x: bool, y: bool) -> bool
-    ensures { result ≡ (x && y) }
-{
-    if x {
-        return y;
-    }
-    false
-}
 
 // Question 1.
 pub fn preset_ok(preset: usize) -> bool
@@ -59,15 +39,14 @@ pub fn place_ok(place: usize) -> bool
 pub fn count_ok(count: usize) -> bool
     ensures { result ≡ count_ok count }
 {
-    both(1 <= count, count <= PLANES_MAX)
+    1 <= count && count <= PLANES_MAX
 }
 
 // Question 4: a multiple of 8 from 8 to 7,680.
 pub fn stride_ok(stride: usize) -> bool
     ensures { result ≡ stride_ok stride }
 {
-    let sizes = both(8 <= stride, stride <= STRIDE_MAX);
-    both(stride % 8 == 0, sizes)
+    stride % 8 == 0 && 8 <= stride && stride <= STRIDE_MAX
 }
 
 // Question 5: n samples are at least 16 rows. Compared by division: no product overflows.

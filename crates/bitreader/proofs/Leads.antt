@@ -1,16 +1,15 @@
 -- The leading zeros of a word are the zeros of the stream. Assumes nothing.
-use mathlib.Core.Path.{◌≡◌, refl, sym, ap, ap₂, ◌∙◌, subst}
+use mathlib.Core.Path.{◌≡◌, refl, sym, ap, ◌∙◌}
 use mathlib.Core.Bool.{Bool, true, false}
 use mathlib.Core.Logic.{◌⊎◌, inl, inr, ⊎_elim}
-use mathlib.Core.List.{List}
-use Prim.Native.Nat.{ℕ, zero, suc, ◌+◌, ◌-◌, ◌*◌, ◌^◌, ◌≤◌, ◌<◌}
-use native.Mathlib.Nat.{zero-mul, zero-add, one-mul, lt_of_lt_of_le, le_trans, le_refl, not-le_of_lt, lt_of_not-le, two-pow-succ, mul-le-mul_right, le_of_eq, suc-add, add_comm}
+use Prim.Native.Nat.{ℕ, suc, ◌+◌, ◌-◌, ◌*◌, ◌^◌, ◌≤◌, ◌<◌}
+use native.Mathlib.Nat.{zero-mul, zero-add, lt_of_lt_of_le, le_trans, le_refl, lt_of_not-le, two-pow-succ, mul-le-mul_right, le_of_eq, suc-add}
 use native.Mathlib.Omega.{arith}
 use borrow.Author.Tests.{ltb-true, ltb-false}
 use lib.Dec.{ltb}
 use lib.Pow.{pow-add, pow_mono, shl_lt}
 use lib.Count.{count_leading_zeros, leading_length, leading_unique}
-use Rattle.bits.specs.Bits.{bit, bit_at, Stream, num}
+use Rattle.bits.specs.Bits.{bit, Stream, num}
 use Rattle.bits.specs.Read.{zeros}
 use Rattle.bitreader.proofs.words.Num.{num_add, num_suc, num_lt, zeros_le, zeros_num, zeros_one}
 

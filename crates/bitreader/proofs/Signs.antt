@@ -1,15 +1,14 @@
 -- The number of a code by unsigned arithmetic modulo 65,536. Assumes nothing.
 use mathlib.Core.Path.{◌≡◌, refl, sym, ap, ◌∙◌}
-use mathlib.Core.Bool.{Bool, true, false}
-use Prim.Native.Nat.{ℕ, zero, suc, ◌-◌, ◌/◌, ◌%◌, ◌<◌}
+use mathlib.Core.Bool.{Bool}
+use Prim.Native.Nat.{ℕ, zero, suc, ◌-◌, ◌/◌, ◌%◌}
 use native.Mathlib.Omega.{arith}
-use lib.IntN.{ℤ, pos, negsuc, neg_ℤ}
+use lib.IntN.{pos, neg_ℤ}
 use borrow.Author.Tests.{eq-eqb, ne_eqb}
 use mir.Syntax.{w16, w32}
 use mir.Val.{to_z}
 use Rattle.scalar.specs.Scalar.{mod_z, wrap16}
 use Rattle.scalar.proofs.Laws.{from_bits}
-use Rattle.bits.specs.Bits.{odd}
 use Rattle.bits.specs.Signed.{by_sign, signed_of}
 
 pub code_odd : (c : ℕ) → c % 2 ≡ 1 → wrap16 (to_z w32 (c / 2 % 65536)) ≡ signed_of c

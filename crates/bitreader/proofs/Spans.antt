@@ -1,19 +1,19 @@
 -- One form for all codes: from a place with y zeros, y + 1 bits after them are the number. Assumes nothing.
-use mathlib.Core.Path.{◌≡◌, refl, sym, ap, ap₂, ◌∙◌, subst}
+use mathlib.Core.Path.{◌≡◌, refl, sym, ap, ap₂, ◌∙◌}
 use mathlib.Core.Bool.{Bool, true, false}
 use mathlib.Core.Logic.{⊎_elim}
 use Prim.Native.Nat.{ℕ, zero, suc, ◌+◌, ◌-◌, ◌*◌, ◌^◌, ◌≤◌, ◌<◌}
-use native.Mathlib.Nat.{add-zero, add-suc, suc-add, lt_of_lt_of_le, le_of_suc-le-suc, not-suc-le-zero}
+use native.Mathlib.Nat.{add-zero, lt_of_lt_of_le, not-suc-le-zero}
 use native.Mathlib.Omega.{arith}
 use borrow.Author.Tests.{le-leb, lt-leb}
 use lib.Dec.{leb, leb-suc-suc}
 use lib.Pow.{pow_mono, pow_pos}
 use lib.Count.{count_leading_zeros}
 use Rattle.bits.specs.Bits.{bit, Stream, num}
-use Rattle.bits.specs.Read.{unless_one, zeros, Tail, bad_tail, number, pick_tail, tail_at, read_tail, Symbol, bad_symbol, run, value, as_run, as_value, by_head, read_symbol, DcCode, bad_dc, zero_step, step, as_step, by_first, read_dc}
+use Rattle.bits.specs.Read.{zeros, Tail, bad_tail, number, pick_tail, tail_at, read_tail, bad_symbol, run, value, as_run, as_value, by_head, read_symbol, bad_dc, zero_step, step, as_step, by_first, read_dc}
 use Rattle.bitreader.specs.words.Word.{number_of}
 use Rattle.bitreader.specs.Cursor.{symbol_by, dc_by}
-use Rattle.bitreader.proofs.words.Num.{num_suc, num_lt, zeros_one}
+use Rattle.bitreader.proofs.words.Num.{num_lt, zeros_one}
 use Rattle.bitreader.proofs.Leads.{lt_or_ge, lead_is, one_first}
 
 span : Stream → ℕ → ℕ → Tail

@@ -2,8 +2,8 @@
 use Rattle.std.specs.Prelude.{◌≡◌, false, List, ℕ, zero, suc, ◌+◌, ◌-◌, ◌*◌, ◌^◌, ◌≤◌, ◌<◌}
 use Rattle.std.specs.Int.Count.{count_leading_zeros}
 use Rattle.bits.specs.Bits.{bit, bit_at}
-use Rattle.bits.specs.Read.{read_tail, Symbol, bad_symbol, run, value, read_symbol, DcCode, bad_dc, zero_step, step, read_dc}
-use Rattle.bitreader.specs.words.Word.{Holds, number_of}
+use Rattle.bits.specs.Read.{Symbol, bad_symbol, run, value, read_symbol, DcCode, bad_dc, zero_step, step, read_dc}
+use Rattle.bitreader.specs.words.Word.{Holds}
 use Rattle.bitreader.specs.declared.AcCursor.{AcCursor}
 use Rattle.bitreader.specs.declared.Got.{Got}
 

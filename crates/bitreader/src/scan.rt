@@ -19,12 +19,9 @@ pub fn no_six_zeros(s: &[u8], from: usize) -> bool
     if n < 6 {
         return true;
     }
-    let m = n - 5;
     let mut found: u8 = 0;
-    let mut i = from;
-    while i < m {
+    for i in from..n - 5 {
         found = found | six(s[i], s[i + 1], s[i + 2], s[i + 3], s[i + 4], s[i + 5]);
-        i += 1;
     }
     found == 0
 }

@@ -48,10 +48,8 @@ fn edge(s: &[u8], i: usize) -> u64
     ensures { result ≡ num 64 0 (bit_at s.now) (8 * i) }
 {
     let mut w: u64 = 0;
-    let mut k: usize = 0;
-    while k < 8 {
+    for k in 0..8 {
         w = w * 256 + byte(s, i + k) as u64;
-        k += 1;
     }
     w
 }

@@ -2,12 +2,11 @@
 use mathlib.Core.Path.{◌≡◌, sym, ap, ap₂, ◌∙◌, refl, subst}
 use mathlib.Core.Bool.{Bool}
 use mathlib.Core.List.{List, [], ◌++◌, append_assoc}
-use Prim.Native.Nat.{ℕ, ◌+◌, ◌*◌, ◌/◌, ◌%◌, ◌^◌, ◌≤◌, ◌<◌}
+use Prim.Native.Nat.{ℕ, ◌+◌, ◌*◌, ◌/◌, ◌%◌, ◌^◌, ◌<◌}
 use native.Mathlib.Nat.{mod-lt, add-zero}
 use native.Mathlib.Omega.{arith}
 use lib.Arith.{digits_lt}
 use lib.Pow.{pow_pos, pow-add, shr_lt}
-use lib.ListN.{length}
 use Rattle.bits.specs.Bits.{bits_of}
 use Rattle.bits.specs.Lay.{lay}
 use Rattle.bits.specs.ByteRow.{bytes_bits, word_bytes}

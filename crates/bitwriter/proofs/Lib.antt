@@ -1,3 +1,4 @@
+pub mod Laid
 pub mod Writer
 pub mod Same
 mod Filling

@@ -6,7 +6,7 @@ use native.Mathlib.Omega.{arith}
 use lib.ListN.{length}
 use Rattle.bits.specs.Bits.{bits_of, bit_length, value_code, run_code}
 use Rattle.bitwriter.specs.Pairs.{run_word, run_length, value_length}
-use Rattle.bitwriter.proofs.Words.{Value, value_word, Run, run_code_lem, both_fits, both_code, both_long}
+use Rattle.bitwriter.proofs.Words.{value_word, run_code_lem, both_fits, both_code, both_long}
 
 pub record Pair (n c : ℕ) : Type 0 where
   pub few : run_length n + value_length c < 64

@@ -1,7 +1,7 @@
 -- The codes as put takes them: a number and its width, from the bit length that the code found. Assumes nothing.
-use mathlib.Core.Path.{◌≡◌, refl, sym, ap, ap₂, ◌∙◌, subst}
+use mathlib.Core.Path.{◌≡◌, sym, ap₂, ◌∙◌, subst}
 use mathlib.Core.List.{List, ◌++◌}
-use Prim.Native.Nat.{ℕ, zero, suc, ◌+◌, ◌-◌, ◌*◌, ◌/◌, ◌%◌, ◌^◌, ◌≤◌, ◌<◌}
+use Prim.Native.Nat.{ℕ, ◌+◌, ◌-◌, ◌*◌, ◌/◌, ◌^◌, ◌≤◌, ◌<◌}
 use native.Mathlib.Omega.{arith}
 use native.Mathlib.Nat.{lt_of_lt_of_le}
 use lib.Arith.{digits_lt}
@@ -10,7 +10,6 @@ use lib.ListN.{length, length-append}
 use Rattle.bits.specs.Bits.{bits_of, bit_length, value_code, run_code}
 use Rattle.bits.proofs.Leading.{length_le, length_top}
 use Rattle.bits.proofs.Pack.{bits_join}
-use Rattle.bits.proofs.Codes.{length_bits_of}
 use Rattle.bits.proofs.CodeWord.{value_number, value_fits, value_length_lem, run_number, run_fits, run_length_lem}
 use Rattle.bitwriter.specs.Put.{Room}
 use Rattle.bitwriter.specs.declared.BitAcc.{BitAcc}

@@ -24,14 +24,7 @@ pub fn store8(out: &mut [u8], p: usize, w: u64)
     requires { p + 8 ≤ length out.old }
     ensures { out.new ≡ lay out.old p (word_bytes 8 w) }
 {
-    out[p] = ((w >> 56) % 256) as u8;
-    out[p + 1] = ((w >> 48) % 256) as u8;
-    out[p + 2] = ((w >> 40) % 256) as u8;
-    out[p + 3] = ((w >> 32) % 256) as u8;
-    out[p + 4] = ((w >> 24) % 256) as u8;
-    out[p + 5] = ((w >> 16) % 256) as u8;
-    out[p + 6] = ((w >> 8) % 256) as u8;
-    out[p + 7] = (w % 256) as u8;
+    out[p..p + 8].copy_from_slice(&w.to_be_bytes());
 }
 
 // Stores the m low bytes of w at p, the highest first.
@@ -39,11 +32,6 @@ pub fn store_low(out: &mut [u8], p: usize, w: u64, m: u32)
     requires { (m ≤ 8) × (p + m ≤ length out.old) }
     ensures { out.new ≡ lay out.old p (word_bytes m w) }
 {
-    let mut k = m;
-    let mut i = p;
-    while k > 0 {
-        k -= 1;
-        out[i] = ((w >> (8 * k)) % 256) as u8;
-        i += 1;
-    }
+    let n = m as usize;
+    out[p..p + n].copy_from_slice(&w.to_be_bytes()[8 - n..]);
 }

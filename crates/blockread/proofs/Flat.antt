@@ -1,5 +1,5 @@
 -- A block that is filled by the zeros still to come: no code is read for it.
-use Rattle.std.proofs.Common.{◌≡◌, ℕ, ◌-◌, ◌^◌, ◌<◌, ◌≤◌, List, replicate, ℤ, pos, sym, refl, ap, ◌∙◌, arith}
+use Rattle.std.proofs.Common.{ℕ, ◌-◌, ◌^◌, ◌<◌, ◌≤◌, List, replicate, ℤ, pos, sym, refl, ap, ◌∙◌, arith}
 use Rattle.bits.specs.Bits.{bit_at}
 use Rattle.calls.specs.ReadPlane.{places}
 use Rattle.acplaces.specs.Places.{Placed}

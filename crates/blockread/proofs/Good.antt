@@ -1,5 +1,5 @@
 -- No bad code in a plane: none in its first block, and none after it.
-use Rattle.std.proofs.Common.{◌≡◌, ℕ, suc, Bool, true, false, ltb, List, ℤ, pos, sym, refl, ap, ◌∙◌, arith}
+use Rattle.std.proofs.Common.{◌≡◌, ℕ, suc, Bool, true, false, ltb, List, ℤ, sym, refl, ap, ◌∙◌, arith}
 use Rattle.bits.specs.Bits.{Stream, bit_at}
 use Rattle.bits.specs.Read.{DcCode, bad_dc, zero_step, step, read_dc}
 use Rattle.calls.specs.ReadPlane.{Places, bad_places, places, read_places, BlockRead, Blocks, bad_blocks, blocks, by_places, read_blocks, DcSteps, bad_steps, dc_steps, by_dc_code, read_steps, PlaneRead, bad_plane, plane_read}

@@ -1,11 +1,8 @@
 // A plane's blocks, read one by one from both streams (slice.rs, decode_plane without the transform).
-// The next block stands in a file for each depth: with one caller it is made part of that depth's loop over blocks, where one
-// for both would stay a call, the block and all that is between two blocks in memory.
 #![tactic(auto)]
 
+pub mod block;
 pub mod dc;
-pub mod eight;
-pub mod ten;
 
 ghost use Rattle.std.specs.Prelude.{◌≡◌, ◌^◌, ◌<◌};
 ghost use Rattle.bits.specs.Bits.{bytes_for};

@@ -1,5 +1,5 @@
 -- Laws of the builder's header.
-use mathlib.Core.Path.{◌≡◌, refl, sym, ◌∙◌}
+use mathlib.Core.Path.{◌≡◌, refl, sym}
 use mathlib.Core.Bool.{Bool, true, false}
 use mathlib.Core.List.{List, [], ◌∷◌}
 use Prim.Native.Nat.{ℕ, zero, suc, ◌+◌, ◌-◌, ◌%◌, ◌≤◌, ◌<◌}
@@ -7,6 +7,9 @@ use native.Mathlib.Omega.{arith}
 use lib.Dec.{leb}
 use lib.ListN.{length}
 use borrow.Author.Tests.{le-leb, lt-leb, leb-true, leb-false}
+use Rattle.ask.proofs.Asked.{asked_no}
+use Rattle.ask.specs.Refusals.{number_of}
+use Rattle.ask.specs.declared.refusal.Refusal.{Refusal}
 use Rattle.ask.specs.Ask.{Answer, refused, accepted, first_no, asked}
 use Rattle.ask.specs.Limits.{shift_max}
 use Rattle.bits.specs.Lay.{lay}
@@ -65,6 +68,10 @@ header_room3 shift at len e h = rw e at h
 
 -- ---- the answers
 module _ (w h : ℕ) (interlaced : Bool) (quality shift : ℕ) (out : List ℕ) (at : ℕ) where
+  pub header_refused : (e : Refusal) → number_of e ≡ first_no (start_questions w h shift (length out) at) → header_of w h interlaced quality shift out at ≡ refused (number_of e)
+  unfolding header_of
+  header_refused e k = sym (asked_no _ _ e k)
+
   pub header_no : {n : ℕ} → n ≡ first_no (start_questions w h shift (length out) at) → 0 < n → header_of w h interlaced quality shift out at ≡ refused n
   unfolding header_of asked
   header_no {n = zero} e k = absurd (omega arith)
@@ -75,9 +82,6 @@ module _ (w h : ℕ) (interlaced : Bool) (quality shift : ℕ) (out : List ℕ) 
       ≡ accepted (record { state = started (at + header_size shift); bytes = lay out at (header_bytes interlaced quality shift (count_byte h)) })
   unfolding header_of asked
   header_yes e = rw e
-
-pub starts_at : (w h len at : ℕ) {shift named n : ℕ} → shift ≡ named → n ≡ first_no (start_questions w h shift len at) → n ≤ 0 → Starts w h shift len at
-starts_at w h len at {shift} d e k = starts w h shift len at (sym e ∙ omega arith)
 
 -- a state and the buffer that a call leaves
 abbrev pub built : Build → List ℕ → Answer Built

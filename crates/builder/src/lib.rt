@@ -7,25 +7,19 @@
 
 pub mod streams;
 
-ghost use Rattle.std.specs.Prelude.{◌≡◌, ◌+◌, ◌≤◌, leb, length};
+ghost use Rattle.std.specs.Prelude.{◌≡◌, ◌+◌, ◌≤◌, leb, length, IfOk};
 ghost use Rattle.ask.specs.Ask.{first_no};
+ghost use Rattle.ask.specs.Refusals.{given};
 ghost use Rattle.ask.specs.Limits.{shift_max};
 ghost use Rattle.bits.specs.Lay.{lay};
 ghost use Rattle.builder.specs.Build.{format_byte, header_bytes, header_size, start_questions, header_of};
 ghost use Rattle.builder.specs.Views.{shift_says, builder_says, HeaderCall};
 
-use ask::numbers::{NO_ROOM, NO_SHIFT, NO_SIZE};
-
-// The DC shift that a frame's header names.
-#[derive(Clone, Copy)]
-pub enum Shift {
-    // none named: 0 is written
-    Default,
-    Named(u32),
-}
+use ask::{Refusal, ask};
+use layout::FrameSize;
 
 // Whose turn it is, and where the next byte goes.
-#[derive(Clone, Copy)]
+#[derive(Clone, Copy, Debug, PartialEq, Eq, Hash)]
 pub struct Builder {
     // whether the AC streams have their turn
     ac_turn: bool,
@@ -62,29 +56,11 @@ impl Builder {
     }
 }
 
-#[derive(Clone, Copy)]
-pub enum HeaderAnswer {
-    Started(Builder),
-    Refused(u32),
-}
-
-fn shift_of(s: Shift) -> u32
-    ensures { result ≡ shift_says s }
-{
-    match s {
-        Shift::Default => 0,
-        Shift::Named(n) => n,
-    }
-}
-
 // Whether n bytes fit from `at` on in a buffer of len bytes. Compared by subtraction: no sum may overflow.
 fn fits(len: usize, at: usize, n: usize) -> bool
     ensures { result ≡ leb (at + n) len }
 {
-    if len < at {
-        return false;
-    }
-    n <= len - at
+    at <= len && n <= len - at
 }
 
 fn header_size(shift: u32) -> usize
@@ -93,17 +69,21 @@ fn header_size(shift: u32) -> usize
     if shift == 0 { 3 } else { 5 }
 }
 
-// The first "no" among the questions about the header, 0 where there is none.
-fn start_number(width: usize, height: usize, shift: u32, len: usize, at: usize) -> u32
-    ensures { result ≡ first_no (start_questions width height shift len at) }
+// The questions about the header; the frame's size.
+#[tactic(auto, unfolding(crate::specs::Build::start_questions, ask::specs::Ask::first_no))]
+fn start_asked(
+    width: usize,
+    height: usize,
+    shift: u32,
+    len: usize,
+    at: usize,
+) -> Result<FrameSize, Refusal>
+    ensures asked { given result ≡ first_no (start_questions width height shift len at) }
+    ensures legal { IfOk result (λ size. size.height ≡ height) }
 {
-    let shifts = ask::shift_ok(shift);
-    let n = header_size(shift);
-    let room = fits(len, at, n);
-    let size = layout::size_ok(width, height);
-    let from_size = ask::or_else(size, NO_SIZE, 0);
-    let from_room = ask::or_else(room, NO_ROOM, from_size);
-    ask::or_else(shifts, NO_SHIFT, from_room)
+    ask(ask::shift_ok(shift), Refusal::Shift)?;
+    ask(fits(len, at, header_size(shift)), Refusal::Room)?;
+    FrameSize::new(width, height)
 }
 
 fn format_byte(interlaced: bool) -> u8
@@ -126,30 +106,26 @@ fn put_header(out: &mut [u8], at: usize, interlaced: bool, quality: u8, shift: u
     }
 }
 
-// Writes the header at `at`, and is then ready for the first DC stream.
+// Writes the header at `at`, and is then ready for the first DC stream. Where no DC shift is named it writes 0.
 pub fn start_frame(
     width: usize,
     height: usize,
     interlaced: bool,
     quality: u8,
-    shift: Shift,
+    shift: Option<u32>,
     out: &mut [u8],
     at: usize,
-) -> HeaderAnswer
+) -> Result<Builder, Refusal>
     ensures { HeaderCall result out.old out.new
         (header_of width height interlaced quality (shift_says shift) out.old at) }
 {
-    let s = shift_of(shift);
-    let x = start_number(width, height, s, out.len(), at);
-    if 0 < x {
-        return HeaderAnswer::Refused(x);
-    }
-    let end = at + header_size(s);
-    let slices = layout::slice_count(height);
-    put_header(out, at, interlaced, quality, s, (slices % 256) as u8);
-    HeaderAnswer::Started(Builder {
+    let shift = shift.unwrap_or(0);
+    let size = start_asked(width, height, shift, out.len(), at)?;
+    let slices = layout::slice_count(size.height);
+    put_header(out, at, interlaced, quality, shift, (slices % 256) as u8);
+    Ok(Builder {
         ac_turn: false,
         next: 0,
-        at: end,
+        at: at + header_size(shift),
     })
 }

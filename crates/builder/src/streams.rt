@@ -3,55 +3,34 @@
 // It refuses a buffer without room, a size that no frame has, a stream longer than its limit and a stream out of turn; a
 // refusal hands the state back as it came and changes no byte. Slice count and limits are those of width and height, found
 // anew for each stream: no caller can name others.
-ghost use Rattle.std.specs.Prelude.{◌≡◌, true, [], ◌∷◌, ◌+◌, ◌≤◌, ◌<◌, leb, length};
+ghost use Rattle.std.specs.Prelude.{◌≡◌, ◌+◌, ◌≤◌, ◌<◌, ◌^◌, length, IfOk};
 ghost use Rattle.ask.specs.Ask.{first_no};
-ghost use Rattle.ask.specs.Limits.{width_max};
+ghost use Rattle.ask.specs.Refusals.{given};
 ghost use Rattle.bits.specs.Lay.{lay};
-ghost use Rattle.layout.specs.Geometry.{size_ok, size_question, limit_of};
+ghost use Rattle.layout.specs.Geometry.{limit_of};
 ghost use Rattle.layout.specs.Views.{is_ac};
 ghost use Rattle.builder.specs.Views.{builder_says};
-ghost use Rattle.builder.specs.streams.Put.{length_word, same, in_turn, limit_question, turn_question, stream_questions};
-ghost use Rattle.builder.specs.streams.Put.{stream_of, after_stream, is_complete, complete_of};
+ghost use Rattle.builder.specs.streams.Put.{length_word, same, in_turn, stream_questions, stream_of, after_stream, is_complete, complete_of};
 ghost use Rattle.builder.specs.streams.Views.{StreamCall, complete_says};
 
 use crate::Builder;
-use ask::numbers::{NO_LIMIT, NO_ROOM, NO_SIZE, NO_TURN};
-use layout::Kind;
+use ask::{Refusal, ask};
+use layout::{FrameSize, Kind};
 
-#[derive(Clone, Copy)]
-pub enum StreamAnswer {
-    Next(Builder),
-    Refused(u32, Builder),
-}
-
-#[derive(Clone, Copy)]
-pub enum CompleteAnswer {
-    Complete(bool),
-    Refused(u32),
-}
-
-// Whether a length word and n bytes fit from `at` on in a buffer of len bytes.
-fn fits_stream(len: usize, at: usize, n: usize) -> bool
-    ensures { result ≡ leb (at + (4 + n)) len }
-{
-    if len < at {
-        return false;
-    }
-    let left = len - at;
-    if left < 4 {
-        return false;
-    }
-    n <= left - 4
+// A stream that was refused: by which question, and the state as it came.
+#[derive(Clone, Copy, Debug, PartialEq, Eq, Hash)]
+pub struct Refused {
+    pub no: Refusal,
+    pub state: Builder,
 }
 
 // The longest stream of a kind.
-fn limit_for(width: usize, kind: Kind) -> usize
-    requires { width ≤ width_max }
-    ensures { result ≡ limit_of (is_ac kind) width }
+fn limit_for(size: FrameSize, kind: Kind) -> usize
+    ensures { result ≡ limit_of (is_ac kind) size.width }
 {
     match kind {
-        Kind::Dc => layout::max_dc_len(width),
-        Kind::Ac => layout::max_ac_len(width),
+        Kind::Dc => layout::max_dc_len(size.width),
+        Kind::Ac => layout::max_ac_len(size.width),
     }
 }
 
@@ -59,7 +38,7 @@ fn turn_of(b: Builder, kind: Kind) -> bool
     ensures { result ≡ same (is_ac kind) b.ac_turn }
 {
     match kind {
-        Kind::Dc => { if b.ac_turn { false } else { true } }
+        Kind::Dc => !b.ac_turn,
         Kind::Ac => b.ac_turn,
     }
 }
@@ -67,72 +46,37 @@ fn turn_of(b: Builder, kind: Kind) -> bool
 fn in_turn(b: Builder, slices: usize, kind: Kind, slice: usize) -> bool
     ensures { result ≡ in_turn slices (is_ac kind) slice (builder_says b) }
 {
-    if slice < slices {
-        if turn_of(b, kind) {
-            return slice == b.next;
-        }
-        return false;
-    }
-    false
+    slice < slices && turn_of(b, kind) && slice == b.next
 }
 
-// Questions 13 and 14 about a stream of n bytes, of a size that frames have.
-fn limit_and_turn(
+// The questions about a stream; the frame's size. Only a size that frames have has limits.
+#[tactic(auto, unfolding(crate::specs::streams::Put::stream_questions, ask::specs::Ask::first_no))]
+fn stream_asked(
     b: Builder,
     width: usize,
     height: usize,
     kind: Kind,
     slice: usize,
-    n: usize,
-) -> u32
-    requires { size_ok width height ≡ true }
-    ensures { result ≡ first_no (limit_question width (is_ac kind) n ∷ turn_question height (builder_says b) (is_ac kind) slice ∷ []) }
-{
-    let limit = limit_for(width, kind);
-    let slices = layout::slice_count(height);
-    let turn = in_turn(b, slices, kind, slice);
-    let from_turn = ask::or_else(turn, NO_TURN, 0);
-    ask::or_else(n <= limit, NO_LIMIT, from_turn)
-}
-
-// Question 9, then those that rest on it: only a size that frames have has limits.
-fn from_size(b: Builder, width: usize, height: usize, kind: Kind, slice: usize, n: usize) -> u32
-    ensures { result ≡ first_no (size_question width height
-        ∷ limit_question width (is_ac kind) n ∷ turn_question height (builder_says b) (is_ac kind) slice ∷ []) }
-{
-    if layout::size_ok(width, height) {
-        return limit_and_turn(b, width, height, kind, slice, n);
-    }
-    NO_SIZE
-}
-
-// The first "no" among the questions about a stream of n bytes, 0 where there is none.
-fn stream_number(
-    b: Builder,
-    width: usize,
-    height: usize,
-    kind: Kind,
-    slice: usize,
-    n: usize,
+    s: &[u8],
     len: usize,
-) -> u32
-    ensures { result ≡ first_no (stream_questions width height (builder_says b) (is_ac kind) slice n len) }
+) -> Result<FrameSize, Refusal>
+    ensures asked { given result ≡ first_no (stream_questions width height (builder_says b) (is_ac kind) slice (length s.now) len) }
+    ensures legal { IfOk result (λ size. size.height ≡ height) }
 {
-    if fits_stream(len, b.at, n) {
-        return from_size(b, width, height, kind, slice, n);
-    }
-    NO_ROOM
+    ask(crate::fits(len, b.at, 4 + s.len()), Refusal::Room)?;
+    let size = FrameSize::new(width, height)?;
+    ask(s.len() <= limit_for(size, kind), Refusal::Limit)?;
+    let slices = layout::slice_count(size.height);
+    ask(in_turn(b, slices, kind, slice), Refusal::Turn)?;
+    Ok(size)
 }
 
 // Stores a 32-bit length, low byte first.
 fn put_length(out: &mut [u8], at: usize, n: usize)
-    requires { at + 4 ≤ length out.old }
+    requires { (at + 4 ≤ length out.old) × (n < 2 ^ 32) }
     ensures { out.new ≡ lay out.old at (length_word n) }
 {
-    out[at] = (n % 256) as u8;
-    out[at + 1] = (n / 256 % 256) as u8;
-    out[at + 2] = (n / 65536 % 256) as u8;
-    out[at + 3] = (n / 16777216 % 256) as u8;
+    copy::copy_in(out, at, &(n as u32).to_le_bytes());
 }
 
 // The state after a stream that ends at `at`, in a frame of so many slices.
@@ -140,16 +84,8 @@ fn next_state(b: Builder, slices: usize, at: usize) -> Builder
     requires { b.next < slices }
     ensures { builder_says result ≡ after_stream slices (builder_says b) at }
 {
-    let last = b.next + 1 == slices;
     let next = b.next + 1;
-    if b.ac_turn {
-        return Builder {
-            ac_turn: true,
-            next,
-            at,
-        };
-    }
-    if last {
+    if !b.ac_turn && next == slices {
         return Builder {
             ac_turn: true,
             next: 0,
@@ -157,7 +93,7 @@ fn next_state(b: Builder, slices: usize, at: usize) -> Builder
         };
     }
     Builder {
-        ac_turn: false,
+        ac_turn: b.ac_turn,
         next,
         at,
     }
@@ -172,42 +108,31 @@ pub fn put_stream(
     slice: usize,
     s: &[u8],
     out: &mut [u8],
-) -> StreamAnswer
+) -> Result<Builder, Refused>
     ensures { StreamCall b result out.old out.new
         (stream_of width height (builder_says b) (is_ac kind) slice s.now out.old) }
 {
-    let n = s.len();
-    let x = stream_number(b, width, height, kind, slice, n, out.len());
-    if 0 < x {
-        return StreamAnswer::Refused(x, b);
-    }
-    let slices = layout::slice_count(height);
-    let at = b.at;
-    put_length(out, at, n);
-    copy::copy_in(out, at + 4, s);
-    StreamAnswer::Next(next_state(b, slices, at + 4 + n))
+    let size = match stream_asked(b, width, height, kind, slice, s, out.len()) {
+        Ok(size) => size,
+        Err(no) => return Err(Refused { no, state: b }),
+    };
+    let slices = layout::slice_count(size.height);
+    put_length(out, b.at, s.len());
+    copy::copy_in(out, b.at + 4, s);
+    Ok(next_state(b, slices, b.at + 4 + s.len()))
 }
 
 // Whether a frame of so many slices is complete.
 fn is_complete(slices: usize, ac_turn: bool, next: usize) -> bool
     ensures { result ≡ is_complete slices ac_turn next }
 {
-    if ac_turn {
-        if next == 0 {
-            return true;
-        }
-        return next == slices;
-    }
-    false
+    ac_turn && (next == 0 || next == slices)
 }
 
 // Whether the frame is complete, by whose turn it is: all DC streams are there, and the AC streams of all slices or of none.
-pub fn complete(width: usize, height: usize, ac_turn: bool, next: usize) -> CompleteAnswer
+pub fn complete(width: usize, height: usize, ac_turn: bool, next: usize) -> Result<bool, Refusal>
     ensures { complete_says result ≡ complete_of width height ac_turn next }
 {
-    if layout::size_ok(width, height) {
-        let slices = layout::slice_count(height);
-        return CompleteAnswer::Complete(is_complete(slices, ac_turn, next));
-    }
-    CompleteAnswer::Refused(NO_SIZE)
+    let size = FrameSize::new(width, height)?;
+    Ok(is_complete(layout::slice_count(size.height), ac_turn, next))
 }

@@ -1,23 +1,23 @@
 -- The DC stream is read back: the steps as they were coded, and with the prediction each coded DC shifted back.
-use mathlib.Core.Path.{◌≡◌, refl, sym, ap, ap₂, ◌∙◌}
+use mathlib.Core.Path.{◌≡◌, refl, sym, ap, ◌∙◌}
 use mathlib.Core.Bool.{Bool, true, false, cond}
-use mathlib.Core.List.{List, [], ◌∷◌, ◌++◌, map}
-use Prim.Native.Nat.{ℕ, zero, suc, ◌+◌, ◌*◌, ◌^◌, ◌/◌, ◌%◌, ◌-◌, ◌≤◌, ◌<◌}
-use native.Mathlib.Nat.{add-zero, zero-add, add_assoc, mod-lt}
+use mathlib.Core.List.{List, [], ◌∷◌, map}
+use Prim.Native.Nat.{ℕ, zero, suc, ◌+◌, ◌^◌, ◌-◌, ◌≤◌, ◌<◌}
+use native.Mathlib.Nat.{add-zero, add_assoc}
 use native.Mathlib.Omega.{arith}
-use lib.IntN.{ℤ, pos, negsuc, neg_ℤ, nat_abs, sub_ℕ, ◌+ℤ◌, ◌-ℤ◌}
+use lib.IntN.{ℤ, pos, negsuc, nat_abs, sub_ℕ, ◌-ℤ◌}
 use lib.Signed.{mag}
 use lib.ListN.{length, replicate, length-append}
 use lib.Dec.{ltb}
 use borrow.Author.Tests.{ltb-true, ltb-false}
 use Rattle.scalar.specs.Scalar.{wrap16, add_of, sll_of}
-use Rattle.bits.specs.Bits.{value_code, zero_step_code, Stream}
-use Rattle.bits.specs.Signed.{code_of, signed_of}
-use Rattle.bits.specs.Read.{read_tail, DcCode, zero_step, step, read_dc}
+use Rattle.bits.specs.Bits.{value_code, Stream}
+use Rattle.bits.specs.Signed.{code_of}
+use Rattle.bits.specs.Read.{DcCode, zero_step, step, read_dc}
 use Rattle.bits.proofs.Codes.{At, at_append, value_tail}
 use Rattle.bits.proofs.SignedBack.{signed_code, wrap16_same, code_value, code_le}
 use Rattle.calls.specs.Streams.{steps_from, step_code, step_codes}
-use Rattle.calls.specs.ReadPlane.{DcStep, keep, replace, DcSteps, dc_steps, read_steps, settle, predicted}
+use Rattle.calls.specs.ReadPlane.{DcStep, keep, replace, dc_steps, read_steps, settle, predicted}
 use Rattle.calls.proofs.AcBack.{Fit16, suc_not, neg_not}
 use Rattle.calls.proofs.Residues.{shift_add, shift_zero}
 

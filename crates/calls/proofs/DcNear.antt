@@ -1,16 +1,16 @@
 -- A coded DC, shifted back, is off the quantised one by at most half a step; the coded DC stays small.
-use mathlib.Core.Path.{◌≡◌, refl, sym, ap, ap₂, ◌∙◌}
+use mathlib.Core.Path.{◌≡◌, refl, ap, ◌∙◌}
 use mathlib.Core.Bool.{Bool, true, false, cond}
 use Prim.Native.Nat.{ℕ, zero, suc, ◌+◌, ◌*◌, ◌^◌, ◌/◌, ◌%◌, ◌-◌, ◌≤◌, ◌<◌}
 use native.Mathlib.Nat.{mod-lt, div-add-mod', div-lt_iff_lt-mul, div-le_self}
 use native.Mathlib.Omega.{arith}
-use lib.IntN.{ℤ, pos, negsuc, neg_ℤ, nat_abs, sub_ℕ, ◌+ℤ◌, ◌-ℤ◌}
+use lib.IntN.{ℤ, pos, negsuc, nat_abs, sub_ℕ, ◌+ℤ◌, ◌-ℤ◌}
 use lib.Signed.{mag, shr_z}
 use lib.Dec.{ltb}
 use lib.Pow.{pow_pos, pow_mono}
 use borrow.Author.Tests.{ltb-true, ltb-false}
 use mir.Syntax.{w16}
-use mir.Val.{SFits, to_z, of_z}
+use mir.Val.{to_z}
 use mir.Facts.{to_z-of_z, to_z_pos}
 use Rattle.scalar.specs.Scalar.{wrap16, add_of, sra_of, sll_of}
 use Rattle.bits.proofs.SignedBack.{wrap16_same}

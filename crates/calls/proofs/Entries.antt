@@ -1,10 +1,9 @@
 -- Document 01's entries on streams, on the definitions: from coefficients to bytes, and from bytes to coefficients and positions.
 use mathlib.Core.Path.{◌≡◌, refl}
-use mathlib.Core.Bool.{Bool, true, false}
-use mathlib.Core.List.{List, [], ◌∷◌, ◌++◌, map}
-use Prim.Native.Nat.{ℕ, zero, suc}
+use mathlib.Core.List.{List, [], ◌∷◌, ◌++◌}
+use Prim.Native.Nat.{ℕ}
 use lib.IntN.{ℤ, pos, negsuc}
-use lib.ListN.{replicate, length}
+use lib.ListN.{replicate}
 use Rattle.bits.specs.Bits.{bits_of, halvings, bit_length, spread, value_code, run_code, num, bit_at, to_bytes, pad_to_byte}
 use Rattle.bits.specs.Signed.{code_of, signed_of}
 use Rattle.bits.specs.Read.{zeros, tail_at, read_tail, read_symbol, read_dc}

@@ -4,12 +4,12 @@ use mathlib.Core.Path.{◌≡◌, refl}
 use mathlib.Core.Bool.{true}
 use mathlib.Core.List.{List, [], ◌∷◌, ◌++◌}
 use Prim.Native.Nat.{ℕ}
-use lib.IntN.{ℤ, pos}
+use lib.IntN.{pos}
 use lib.ListN.{get_or, replicate}
 use Rattle.scalar.specs.Scalar.{wrap16, add_of, sra_of}
 use Rattle.ask.specs.Ask.{Question, refused, accepted, first_no, asked}
 use Rattle.ask.proofs.AtLimits.{Broken, no, limits, holds}
-use Rattle.calls.specs.Arguments.{eight, Settings, Rows, Plane, Call, one_plane, one_slice, PerStream}
+use Rattle.calls.specs.Arguments.{eight, Settings, Rows, Call, one_plane, one_slice, PerStream}
 use Rattle.calls.specs.Questions.{reading_questions, preview_questions, report_questions, plane_size_questions, slice_size_questions}
 use Rattle.calls.specs.Previews.{preview_byte, plane_size, slice_size, first_of_four}
 

@@ -1,24 +1,23 @@
 -- A plane's own streams are read back, with anything before and after them.
 use mathlib.Core.Path.{◌≡◌, refl, sym, ap, ap₂, ◌∙◌, subst}
-use mathlib.Core.Bool.{Bool, true, false}
-use mathlib.Core.List.{List, [], ◌∷◌, ◌++◌, map, append_assoc}
-use Prim.Native.Nat.{ℕ, zero, suc, ◌+◌, ◌*◌, ◌^◌, ◌/◌, ◌%◌, ◌-◌, ◌≤◌, ◌<◌}
-use native.Mathlib.Nat.{add-zero, zero-add, add_assoc, add-suc, suc-add}
+use mathlib.Core.Bool.{Bool}
+use mathlib.Core.List.{List, [], ◌∷◌, ◌++◌, map}
+use Prim.Native.Nat.{ℕ, zero, suc, ◌+◌, ◌*◌, ◌^◌, ◌-◌, ◌<◌}
+use native.Mathlib.Nat.{zero-add, suc-add}
 use native.Mathlib.Omega.{arith}
-use lib.IntN.{ℤ, pos, negsuc}
+use lib.IntN.{ℤ, pos}
 use lib.Signed.{mag}
 use lib.ListN.{length, replicate, length-append, length-map, take, drop}
 use lib.Seq.{take_at, drop_at}
 use lib.Dec.{ltb}
-use Rattle.scalar.specs.Scalar.{wrap16, add_of, sra_of, sll_of}
+use Rattle.scalar.specs.Scalar.{add_of, sra_of, sll_of}
 use Rattle.scalar.proofs.Laws.{wrap16_fits, shr_fits}
 use Rattle.bits.specs.Bits.{Stream, bit_at, bytes_for, pad_to_byte}
 use Rattle.bits.specs.Signed.{signed_of}
 use Rattle.bits.specs.Read.{Symbol, bad_symbol, run, value, read_symbol}
-use Rattle.bits.proofs.Codes.{At}
 use Rattle.bits.proofs.PackBack.{pad_to_byte_at, length_pad_to_byte}
 use Rattle.calls.specs.Streams.{coded_dc, steps_from, step_codes, dc_of, with_dc, dc_stream, symbol_codes, joined, ac_stream}
-use Rattle.calls.specs.ReadPlane.{Places, bad_places, places, place_then, by_symbol, read_places, BlockRead, Blocks, bad_blocks, blocks, read_blocks, DcSteps, dc_steps, read_steps, predicted, ac_dcs, with_dcs, PlaneRead, plane_read, both_streams, read_plane}
+use Rattle.calls.specs.ReadPlane.{Places, bad_places, places, place_then, by_symbol, read_places, BlockRead, blocks, read_blocks, dc_steps, read_steps, predicted, ac_dcs, with_dcs, plane_read, both_streams, read_plane}
 use Rattle.calls.proofs.AcBack.{Fit16, ac_back}
 use Rattle.calls.proofs.Residues.{shift_zero}
 use Rattle.calls.proofs.DcBack.{as_read, steps_back, predicted_back, length_steps, steps_small}

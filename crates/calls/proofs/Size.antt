@@ -1,12 +1,12 @@
 -- How long a plane's own streams are at most: 4 bytes a block (DC), 197 (AC).
-use mathlib.Core.Path.{◌≡◌, refl, sym, ap, ap₂, ◌∙◌}
+use mathlib.Core.Path.{◌≡◌, ap}
 use mathlib.Core.List.{List, [], ◌∷◌, ◌++◌, map}
-use Prim.Native.Nat.{ℕ, zero, suc, ◌+◌, ◌*◌, ◌^◌, ◌/◌, ◌-◌, ◌≤◌, ◌<◌}
+use Prim.Native.Nat.{ℕ, zero, suc, ◌+◌, ◌*◌, ◌^◌, ◌≤◌, ◌<◌}
 use native.Mathlib.Omega.{arith}
 use lib.IntN.{ℤ, pos, negsuc, nat_abs, ◌-ℤ◌}
 use lib.ListN.{length, length-append, length-map}
 use Rattle.ask.specs.Limits.{shift_max, dc_block_bytes, ac_block_bytes}
-use Rattle.bits.specs.Bits.{bit_length, halvings, spread, value_code, run_code, bytes_for, pad_to_byte}
+use Rattle.bits.specs.Bits.{bit_length, halvings, spread, value_code, run_code}
 use Rattle.bits.specs.Signed.{code_of}
 use Rattle.bits.proofs.Codes.{Digits, digits, digits_lt, length_spread}
 use Rattle.bits.proofs.PackBack.{length_pad_to_byte}

@@ -2,7 +2,27 @@
 use mathlib.Core.Path.{◌≡◌, refl, ap, ◌∙◌}
 use Prim.Native.Nat.{ℕ, zero, suc, ◌<◌}
 use native.Mathlib.Omega.{arith}
+use Rattle.ask.specs.Refusals.{number_of}
+use Rattle.ask.specs.declared.refusal.Refusal.{Refusal}
+use Rattle.ask.specs.declared.refusal.Refusal.TheVariants as refused
 use Rattle.calls.specs.Told.{Told, refusal, acceptance, told, content}
+
+-- no refusal has the number 0
+pub some : (e : Refusal) → 0 < number_of e
+some refused.Preset = omega arith
+some refused.Shift = omega arith
+some refused.Plane = omega arith
+some refused.Stride = omega arith
+some refused.Rows = omega arith
+some refused.Room = omega arith
+some refused.Start = omega arith
+some refused.Code = omega arith
+some refused.Size = omega arith
+some refused.Bytes = omega arith
+some refused.Format = omega arith
+some refused.Count = omega arith
+some refused.Limit = omega arith
+some refused.Turn = omega arith
 
 no : {A : Type 0} (n : ℕ) (a : A) → 0 < n → refusal a ≡ told n a
 unfolding told

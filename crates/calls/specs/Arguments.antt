@@ -1,13 +1,6 @@
 -- What the calls on planes and slices are given. Document 01, 'Plane and slice' and 'Calls in a row'.
-use Rattle.std.specs.Prelude.{Bool, true, false, List, [], ◌∷◌, ℕ, length, take}
-
-pub data Depth : Type 0 where
-  eight : Depth
-  ten : Depth
-
-abbrev pub is_ten : Depth → Bool
-is_ten eight = false
-is_ten ten = true
+use Rattle.std.specs.Prelude.{List, [], ◌∷◌, ℕ, length, take}
+pub use Rattle.sample.specs.Depth.{Depth, eight, ten, is_ten}
 
 pub record Settings : Type 0 where
   pub depth : Depth

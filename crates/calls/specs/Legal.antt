@@ -1,5 +1,5 @@
 -- What questions 1 to 5 leave of a call's arguments. Document 01, 'The questions before any work'.
-use Rattle.std.specs.Prelude.{◌≡◌, List, [], ◌∷◌, ℕ, ◌%◌, ◌≤◌, length}
+use Rattle.std.specs.Prelude.{◌≡◌, List, [], ◌∷◌, ◌%◌, ◌≤◌, length}
 use Rattle.ask.specs.Limits.{preset_max, shift_max, place_max, planes_max, stride_max, rows_needed}
 use Rattle.calls.specs.Arguments.{Settings, Plane, Call, one_plane, one_slice, settings_of, planes_of}
 

@@ -1,6 +1,6 @@
 -- The questions before any work that concern calls on planes and slices, in their order. Document 01, 'The questions before any work'.
 -- Question 6 of a coding call depends on its coefficients' streams: slice/specs/Room.
-use Rattle.std.specs.Prelude.{Bool, true, false, ◌&&◌, List, [], ◌∷◌, ◌++◌, ℕ, ◌+◌, ◌*◌, ◌/◌, leb, length}
+use Rattle.std.specs.Prelude.{Bool, true, ◌&&◌, List, [], ◌∷◌, ◌++◌, ℕ, ◌+◌, ◌*◌, ◌/◌, leb, length}
 use Rattle.ask.specs.Ask.{Question, ask}
 use Rattle.ask.specs.Numbers.{no_preset, no_shift, no_plane, no_stride, no_rows, no_start}
 use Rattle.ask.specs.Limits.{preset_ok, shift_ok, place_ok, count_ok, stride_ok, rows_needed, dc_block_bytes, ac_block_bytes, start_ok, dc_read_ok, ac_read_ok}

@@ -1,5 +1,5 @@
 -- What is read from a plane's two streams, before dequantising. Document 01, 'Plane and slice'.
-use Rattle.std.specs.Prelude.{Bool, true, false, List, [], ◌∷◌, ℕ, zero, suc, ◌*◌, ◌-◌, ℤ, pos, ltb}
+use Rattle.std.specs.Prelude.{Bool, List, [], ◌∷◌, ℕ, zero, suc, ◌*◌, ◌-◌, ℤ, pos, ltb}
 use Rattle.scalar.specs.Scalar.{add_of, sll_of}
 use Rattle.bits.specs.Bits.{Stream, bit_at, bytes_for}
 use Rattle.bits.specs.Signed.{signed_of}

@@ -2,6 +2,9 @@
 // two streams, of previews, reports and sizes.
 #![tactic(auto)]
 
+ghost use Rattle.std.specs.Prelude.{◌≡◌, ◌<◌, length, take};
+ghost use Rattle.calls.specs.Views.{stride_by};
+
 // How coefficients are quantised and DCs are coded.
 #[derive(Clone, Copy)]
 pub struct Settings {
@@ -23,6 +26,26 @@ pub struct Four {
     pub strides: [usize; 4],
 }
 
+impl Four {
+    // Those of the planes that are meant; a count above 4 means all four.
+    pub fn strides(&self) -> &[usize]
+        ensures { result.now ≡ take self.now.count self.now.strides }
+    {
+        &self.strides[..self.count.min(4)]
+    }
+
+    // Of one plane: its place is its index.
+    pub fn shape(self, place: usize) -> Shape
+        requires { place < 4 }
+        ensures { (result.place ≡ place) × (result.stride ≡ stride_by self place) }
+    {
+        Shape {
+            place,
+            stride: self.strides[place],
+        }
+    }
+}
+
 // A position in each of the two streams.
 #[derive(Clone, Copy)]
 pub struct Positions {
@@ -35,4 +58,16 @@ pub struct Positions {
 pub struct Stream {
     pub len: usize,
     pub at: usize,
+}
+
+impl Stream {
+    // Of these bytes, from the byte `at` on.
+    pub fn of(bytes: &[u8], at: usize) -> Stream
+        ensures { (result.len ≡ length bytes.now) × (result.at ≡ at) }
+    {
+        Stream {
+            len: bytes.len(),
+            at,
+        }
+    }
 }

@@ -1,12 +1,12 @@
 -- Laws of bytes that are stored and copied one after the other.
 use mathlib.Core.Path.{◌≡◌, refl, sym, ap, ap₂, ◌∙◌}
-use mathlib.Core.List.{List, [], ◌∷◌, ◌++◌}
+use mathlib.Core.List.{List, [], ◌∷◌}
 use Prim.Native.Nat.{ℕ, ◌+◌, ◌-◌, ◌≤◌, ◌<◌}
 use native.Mathlib.Omega.{arith}
 use native.Mathlib.Nat.{add-zero}
 use native.Mathlib.Numerals.{add-one}
 use lib.ListN.{length, take, drop, set, get_or, length-drop}
-use lib.Seq.{take-suc, take_all, take-add, take_at, get_or-drop, length-take-le}
+use lib.Seq.{take-suc, take_all, take-add, get_or-drop, length-take-le}
 use Rattle.bits.specs.Lay.{lay}
 use Rattle.bits.proofs.LayLaw.{lay_none, lay_next, lay_lay, lay_take}
 

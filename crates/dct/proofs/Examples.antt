@@ -1,5 +1,5 @@
 -- A block whose only coefficient is the DC: filled flat and transformed it differs, so the two must not be exchanged.
-use mathlib.Core.Bool.{true, false}
+use mathlib.Core.Bool.{false}
 use mathlib.Core.Path.{◌≡◌, refl}
 use mathlib.Core.List.{List, [], ◌∷◌}
 use Prim.Native.Nat.{◌*◌}

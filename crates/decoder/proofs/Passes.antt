@@ -4,7 +4,9 @@ use mathlib.Core.List.{List, [], ◌∷◌}
 use Prim.Native.Nat.{ℕ, ◌-◌, ◌≤◌, ◌<◌}
 use native.Mathlib.Omega.{arith}
 use lib.ListN.{take}
-use Rattle.calls.specs.Arguments.{Settings, Rows, Plane, plane_at, one_slice, PerStream, Buffers}
+use Rattle.calls.specs.Arguments.{Settings, Rows, Plane, plane, plane_at, one_slice, PerStream, Buffers}
+use Rattle.calls.specs.Views.{plane_by}
+use Rattle.calls.specs.declared.Shape.{Shape}
 use Rattle.calls.specs.ReadPlane.{BlockRead}
 use Rattle.slice.specs.Calls.{PlanesRead, planes_read, rows_made}
 use Rattle.decplane.specs.Storing.{PlaneGood, PlaneStored}
@@ -108,6 +110,14 @@ module _ (σ : Settings) (count : ℕ) (r0 r1 r2 r3 : Rows) (b : Buffers) (at : 
                   (read_none_lem σ b (count - 1 - 1 - 1 - 1) [] e3 (omega (arith, g.legal.which.1)))))))
                   (ap₂ (λ (x : List ℕ) (y : List (List ℕ)). x ∷ y) s0.stored
                   (ap₂ (λ (x : List ℕ) (y : List (List ℕ)). x ∷ y) s1.stored (ap₂ (λ (x y : List ℕ). x ∷ y ∷ []) s2.stored s3.stored)))
+
+-- ---- a plane by a shape that has its place and its stride
+module _ {σ : Settings} {b : Buffers} {h : Shape} {k n : ℕ} {x : List ℕ} {at : PerStream} (s : (h.place ≡ k) × (h.stride ≡ n)) where
+  pub good_by : PlaneGood σ (plane k n x) b at → PlaneGood σ (plane_by h x) b at
+  good_by p = rw (s.0, s.1) p
+
+  pub stored_by : {end : PerStream} {y : List ℕ} → PlaneStored σ (plane_by h x) b at end y → PlaneStored σ (plane k n x) b at end y
+  stored_by p = rw (sym s.0, sym s.1) p
 
 -- ---- the same of what a call is given
 pub record Given : Type 0 where

@@ -1,7 +1,7 @@
--- The two loops over blocks, one law for both depths.
-use mathlib.Core.Path.{◌≡◌, refl, ap, ◌∙◌, subst}
+-- The two loops over blocks.
+use mathlib.Core.Path.{◌≡◌, refl, ap, ap₂, ◌∙◌, subst}
 use mathlib.Core.Bool.{true}
-use mathlib.Core.List.{List, ◌++◌}
+use mathlib.Core.List.{List, ◌++◌, map}
 use Prim.Native.Nat.{ℕ, zero, suc, ◌+◌, ◌-◌, ◌*◌, ◌/◌, ◌^◌, ◌≤◌, ◌<◌}
 use native.Mathlib.Nat.{add-mul, one-mul, mul-le-mul_right}
 use native.Mathlib.Omega.{arith}
@@ -10,7 +10,8 @@ use Rattle.ask.specs.Limits.{stride_max}
 use Rattle.bits.specs.Bits.{bytes_for}
 use Rattle.tables.specs.Zigzag.{zigzag}
 use Rattle.acpairs.specs.Pairs.{Looks}
-use Rattle.paint.specs.Paint.{store_block, sample_in_block}
+use Rattle.sample.proofs.Lists.{samples_length, samples_take, samples_drop, samples_append}
+use Rattle.paint.specs.Paint.{store_block, sample_in_block, Corner}
 use Rattle.calls.specs.Arguments.{Settings, Plane, plane, PerStream, Buffers}
 use Rattle.calls.specs.ReadPlane.{BlockRead}
 use Rattle.calls.specs.Grid.{columns_of, blocks_of}
@@ -60,6 +61,18 @@ at_row n j k e = omega (arith, add-mul j 1 n, one-mul n)
 at_end : (n j : ℕ) → j ≡ 2 → in_front n j 0 ≡ 2 * n
 at_end n j e = omega (arith, ap (λ (x : ℕ). x * n) e)
 
+-- samples of any kind: the rows from a corner on, and the rows with others in their place. `lists` is the law of the trait Sample
+module _ {A : Type 0} {number : A → ℕ} {samples : List A → List ℕ} (lists : (xs : List A) → samples xs ≡ map number xs) where
+  samples_part : (c : ℕ) (rows : List A) → samples (take (length rows - c) (drop c rows)) ≡ take (length (samples rows) - c) (drop c (samples rows))
+  samples_part c rows = rw (samples_take lists (length rows - c) (drop c rows), samples_drop lists c rows, samples_length lists rows) refl
+
+  samples_back : (c : ℕ) (rows y : List A) → samples (take c rows ++ (y ++ drop (length rows - c) (drop c rows))) ≡ take c (samples rows) ++ (samples y ++ drop (length (samples rows) - c) (drop c (samples rows)))
+  samples_back c rows y =
+      samples_append lists (take c rows) (y ++ drop (length rows - c) (drop c rows))
+      ∙ ap₂ (λ (l m : List ℕ). l ++ m) (samples_take lists c rows)
+      (samples_append lists y (drop (length rows - c) (drop c rows))
+      ∙ ap (λ (l : List ℕ). samples y ++ l) (rw (samples_drop lists (length rows - c) (drop c rows), samples_drop lists c rows, samples_length lists rows) refl))
+
 module _ {σ : Settings} {p : Plane} {b : Buffers} {at : PerStream} where
   moved : {m n : ℕ} {s : Stand} {rows : List ℕ} → m ≡ n → Sofar σ p b at m s rows → Sofar σ p b at n s rows
   moved {m} {n} {s} {rows} e i = subst (λ (x : ℕ). Sofar σ p b at x s rows) e i
@@ -95,11 +108,15 @@ module _ {σ : Settings} {p : Plane} {b : Buffers} {at : PerStream} where
   pub corner_small : (j k : ℕ) {c : ℕ} → PlaneGood σ p b at → j < 2 → k < columns_of p.stride → c ≡ 8 * j * p.stride + 8 * k → c < 16 * stride_max
   corner_small j k o hj hk e = omega (arith, corner_fits j k p.stride hj hk, o.plane.stride_le)
 
-  -- what painting it asks of the rows from its corner on
-  pub room : (j k : ℕ) {s : Stand} {rows : List ℕ} {c : ℕ} → PlaneGood σ p b at → j < 2 → k < columns_of p.stride → c ≡ 8 * j * p.stride + 8 * k
-      → Behind σ p b at j k s rows → (8 ≤ p.stride) × (p.stride ≤ stride_max) × (7 * p.stride + 8 ≤ length (take (length rows - c) (drop c rows)))
-  room j k {s} {rows} {c} o hj hk e i =
-      (o.plane.wide, o.plane.stride_le, rw (part_is rows c) (part_long rows c p.stride (inside j k o hj hk e i)))
+  -- what painting it asks of the rows xs from its corner on
+  pub room : (j k : ℕ) {s : Stand} {rows : List ℕ} {c : ℕ} {A : Type 0} (xs : List A) → length rows ≡ length xs → PlaneGood σ p b at → j < 2 → k < columns_of p.stride → c ≡ 8 * j * p.stride + 8 * k
+      → Behind σ p b at j k s rows → Corner p.stride (length (take (length xs - c) (drop c xs)))
+  room j k {s} {rows} {c} xs l o hj hk e i =
+      record {
+        wide = o.plane.wide;
+        legal = o.plane.stride_le;
+        room_for_block = rw (part_is xs c) (part_long xs c p.stride (omega (arith, l, inside j k o hj hk e i)));
+      }
 
   -- one block, y in the place of the rows from its corner on
   pub next : (j k : ℕ) {c : ℕ} {s : Stand} (g : BlockGot) (rows : List ℕ) {y : List ℕ} → PlaneGood σ p b at → j < 2 → k < columns_of p.stride
@@ -119,6 +136,17 @@ module _ {σ : Settings} {p : Plane} {b : Buffers} {at : PerStream} where
             (λ q l. ap (λ (z : List ℕ). get_or z q 0) (block_here σ.shift n b.dc_bytes b.ac_bytes at.dc at.ac (block_samples σ.depth σ.preset p.place) m s g o.good h i.going x))
             m c p.samples rows y refl ec (omega (arith, corner_fits j k p.stride hj hk, o.plane.rows_long)) i.painted ey;
       })
+
+  -- the same on samples of any kind; `lists` is the law of the trait Sample
+  module _ {A : Type 0} {number : A → ℕ} {samples : List A → List ℕ} (lists : (xs : List A) → samples xs ≡ map number xs) where
+    pub next_samples : (j k : ℕ) {c : ℕ} {s : Stand} (g : BlockGot) (rows : List A) {y : List A} → PlaneGood σ p b at → j < 2 → k < columns_of p.stride
+        → NextBlock σ.shift b.dc_bytes b.ac_bytes s g → c ≡ 8 * j * p.stride + 8 * k
+        → samples y ≡ store_block p.stride (sample_in_block (block_samples σ.depth σ.preset p.place (block_of g))) (samples (take (length rows - c) (drop c rows)))
+        → Behind σ p b at j k s (samples rows) → Behind σ p b at j (k + 1) g.next (samples (take c rows ++ (y ++ drop (length rows - c) (drop c rows))))
+    next_samples j k {c} {s} g rows {y} o hj hk x ec ey i =
+        rw (samples_back lists c rows y)
+        (next j k g (samples rows) o hj hk x ec
+        (ey ∙ ap (λ (l : List ℕ). store_block p.stride (sample_in_block (block_samples σ.depth σ.preset p.place (block_of g))) l) (samples_part lists c rows)) i)
 
   -- a block row
   pub next_row : (j k : ℕ) {s : Stand} {rows : List ℕ} → k ≡ columns_of p.stride → Behind σ p b at j k s rows → Behind σ p b at (j + 1) 0 s rows

@@ -1,5 +1,5 @@
 -- What the plane coder asks and does. Document 01, 'Plane and slice' and 'Calls in a row'.
-use Rattle.std.specs.Prelude.{◌≡◌, ℕ, ◌+◌, ◌≤◌, length}
+use Rattle.std.specs.Prelude.{◌≡◌, ◌+◌, ◌≤◌, length}
 use Rattle.bits.specs.Lay.{lay}
 use Rattle.calls.specs.Arguments.{Settings, Plane, PerStream, Buffers}
 use Rattle.calls.specs.Legal.{LegalSettings, LegalPlane}

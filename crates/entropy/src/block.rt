@@ -1,5 +1,5 @@
 // The entropy coder of one block (the inner part of encode_plane, slice.rs): its step in the DC stream. Its places in the AC stream
-// are for each depth, in the modules eight and ten.
+// are in the module coder.
 ghost use Rattle.std.specs.Prelude.{◌≡◌, ◌≤◌, pos, nat_abs, length};
 ghost use Rattle.ask.specs.Limits.{shift_max};
 ghost use Rattle.bits.specs.Signed.{code_of};

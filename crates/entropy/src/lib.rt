@@ -2,7 +2,6 @@
 #![tactic(auto)]
 
 pub mod block;
-pub mod eight;
+pub mod coder;
 pub mod plane;
 pub mod short;
-pub mod ten;

@@ -1,4 +1,5 @@
-// The two streams of a plane, block by block (encode_plane of slice.rs without the transform): where they begin and where they end; one block is for each depth (eight, ten).
+// The two streams of a plane, block by block (encode_plane of slice.rs without the transform): where they begin and where they end
+// (one block: coder).
 ghost use Rattle.std.specs.Prelude.{◌≡◌};
 ghost use Rattle.calls.specs.Views.{positions_by};
 ghost use Rattle.entropy.specs.plane.Coded.{start_of, EndRoom, Ended};

@@ -7,7 +7,6 @@ ghost use Rattle.bits.specs.Signed.{code_of};
 ghost use Rattle.bitwriter.specs.Pairs.{pair_code};
 ghost use Rattle.entropy.specs.short.Tables.{place_of, code_at, run_table, value_table};
 
-pub use crate::short::table::{run_codes, value_codes};
 use bitwriter::PairCode;
 
 // Where the table has a value: from -127 at place 0 on. Other values have places above 254.
@@ -17,30 +16,49 @@ fn place(v: i16) -> u32
     (scalar::bits16(v) + 127) % 65536
 }
 
-// The code of a run below 64 and of the value at a place of the table.
-fn short_pair(n: u32, place: u32, runs: &[u16; 64], values: &[u16; 255]) -> PairCode
-    requires { (n < 64) × (place < 255) × (runs.now ≡ run_table) × (values.now ≡ value_table) }
-    ensures { result ≡ pair_code n (code_at place) }
-{
-    let run = runs[n as usize] as u32;
-    let value = values[place as usize] as u32;
-    let k = value % 256;
-    PairCode {
-        bits: bitwriter::store::join((run / 16) as u64, k, (value / 256) as u64),
-        length: run % 16 + k,
-    }
+// The codes of short runs and small values, made once for each plane and passed by reference.
+#[derive(Drop)]
+pub struct ShortCodes {
+    pub runs: [u16; 64],
+    pub values: [u16; 255],
+    ghost runs_are: { runs ≡ run_table },
+    ghost values_are: { values ≡ value_table },
 }
 
-// The code of a run and a coefficient.
-pub fn pair(n: u32, v: i16, runs: &[u16; 64], values: &[u16; 255]) -> PairCode
-    requires { (n < 2 ^ 17) × (0 < code_of v) × (code_of v < 2 ^ 15) × (runs.now ≡ run_table) × (values.now ≡ value_table) }
-    ensures { result ≡ pair_code n (code_of v) }
-{
-    let p = place(v);
-    if n < 64 {
-        if p < 255 {
-            return short_pair(n, p, runs, values);
+impl ShortCodes {
+    pub fn new() -> ShortCodes
+        ensures { (result.runs ≡ run_table) × (result.values ≡ value_table) }
+    {
+        ShortCodes {
+            runs: table::run_codes(),
+            values: table::value_codes(),
         }
     }
-    bitwriter::pair_code(n, crate::block::code(v))
+
+    // The code of a run below 64 and of the value at a place of the table.
+    fn short_pair(&self, n: u32, place: u32) -> PairCode
+        requires { (n < 64) × (place < 255) }
+        ensures { result ≡ pair_code n (code_at place) }
+    {
+        let run = self.runs[n as usize] as u32;
+        let value = self.values[place as usize] as u32;
+        let k = value % 256;
+        PairCode {
+            bits: bitwriter::store::join((run / 16) as u64, k, (value / 256) as u64),
+            length: run % 16 + k,
+        }
+    }
+
+    // The code of a run and a coefficient.
+    pub fn pair(&self, n: u32, v: i16) -> PairCode
+        requires { (n < 2 ^ 17) × (0 < code_of v) × (code_of v < 2 ^ 15) }
+        ensures { result ≡ pair_code n (code_of v) }
+    {
+        let p = place(v);
+        if n < 64 && p < 255 {
+            self.short_pair(n, p)
+        } else {
+            bitwriter::pair_code(n, crate::block::code(v))
+        }
+    }
 }

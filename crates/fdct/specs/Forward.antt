@@ -1,25 +1,22 @@
 -- The forward transform of one 8 by 8 block: 64 lanes, row by row, to 64 coefficients in natural order. Document 01, 'Lanes and the block':
 -- "Promises describe the row passes as sums of four products (forward) .., rounded, shifted and saturated; the 32-bit sums wrap.
 -- The column passes are the listed order of steps (AP-922 style)."
-use Rattle.std.specs.Prelude.{Bool, true, false, List, ℕ, zero, suc, ◌+◌, ◌*◌, ◌/◌, ◌%◌, ℤ, pos, neg_ℤ, get_or}
+use Rattle.std.specs.Prelude.{Bool, List, ℕ, zero, suc, ◌+◌, ◌*◌, ◌/◌, ◌%◌, ℤ, neg_ℤ, get_or}
 use Rattle.scalar.specs.Tab.{tab}
+use Rattle.sample.specs.Depth.{Depth}
+use Rattle.sample.specs.Numbers.{lane_of}
+pub use Rattle.sample.specs.Numbers.{column_shift}
 use Rattle.fdct.specs.column.Steps.{Lanes, forward_column_of}
 use Rattle.frow.specs.Rows.{at, forward_rows_of}
 pub use Rattle.fdct.specs.level_shift.Level.{level_at}
 unfoldable pub use Rattle.fdct.specs.level_shift.Level.{level_shift_of}
 
 -- "A u8 sample is its own lane; a u16 sample's lane is the sample shifted right by 6": the block at the corner of the rows
-abbrev pub lane8_at : List ℕ → ℕ → ℕ → ℤ
-lane8_at rows stride i = pos (get_or rows (i / 8 * stride + i % 8) 0)
+abbrev pub sample_lane_at : Depth → List ℕ → ℕ → ℕ → ℤ
+sample_lane_at depth rows stride i = lane_of depth (get_or rows (i / 8 * stride + i % 8) 0)
 
-unfoldable pub lanes8_of : List ℕ → ℕ → List ℤ
-lanes8_of rows stride = tab 64 (lane8_at rows stride)
-
-abbrev pub lane16_at : List ℕ → ℕ → ℕ → ℤ
-lane16_at rows stride i = pos (get_or rows (i / 8 * stride + i % 8) 0 / 64)
-
-unfoldable pub lanes16_of : List ℕ → ℕ → List ℤ
-lanes16_of rows stride = tab 64 (lane16_at rows stride)
+unfoldable pub lanes_of : Depth → List ℕ → ℕ → List ℤ
+lanes_of depth rows stride = tab 64 (sample_lane_at depth rows stride)
 
 -- the column pass of column j
 abbrev pub forward_column_at : ℕ → List ℤ → ℕ → Lanes
@@ -46,11 +43,6 @@ forward_columns_of shift b = tab 64 (columns_at shift b)
 -- level shift, column pass, row pass
 unfoldable pub transform_of : ℕ → ℤ → List ℤ → List ℤ
 transform_of shift add b = forward_rows_of (forward_columns_of shift (level_shift_of add b))
-
--- the column pass shifts by 3 for 8-bit samples, by 1 for 10-bit samples
-abbrev pub column_shift : Bool → ℕ
-column_shift false = 3
-column_shift true = 1
 
 -- the forward transform of a block of a plane with this level; the Bool says 10-bit
 unfoldable pub forward_of : Bool → ℤ → List ℤ → List ℤ

@@ -7,6 +7,7 @@ use lanes::products::mulhi;
 use lanes::shifts::{or16, slli16};
 use lanes::splat;
 use lanes::sums::{adds, subs};
+use sample::Sample;
 
 // Numbers of tables.rs; FDCT_TAN3 is 43790 there, here its 16 bits read as signed.
 pub const FDCT_ROUND1: i16 = 1;
@@ -49,7 +50,7 @@ pub struct OddRows {
 }
 
 // Sums and differences of opposite rows.
-pub fn butterfly(
+pub fn butterfly<S: Sample>(
     x0: [i16; 8],
     x1: [i16; 8],
     x2: [i16; 8],
@@ -88,7 +89,13 @@ pub fn butterfly(
 }
 
 // Rows 0, 2, 4 and 6.
-pub fn even(tp03: [i16; 8], tp12: [i16; 8], tm03: [i16; 8], tm12: [i16; 8], shift: u32) -> EvenRows
+pub fn even<S: Sample>(
+    tp03: [i16; 8],
+    tp12: [i16; 8],
+    tm03: [i16; 8],
+    tm12: [i16; 8],
+    shift: u32,
+) -> EvenRows
     requires { shift < 15 }
     ensures { result ≡ forward_even_rows shift tp03 tp12 tm03 tm12 }
 {
@@ -111,7 +118,7 @@ pub fn even(tp03: [i16; 8], tp12: [i16; 8], tm03: [i16; 8], tm12: [i16; 8], shif
 }
 
 // Rows 1, 3, 5 and 7.
-pub fn odd(d0: [i16; 8], d1: [i16; 8], d2: [i16; 8], d3: [i16; 8], shift: u32) -> OddRows
+pub fn odd<S: Sample>(d0: [i16; 8], d1: [i16; 8], d2: [i16; 8], d3: [i16; 8], shift: u32) -> OddRows
     requires { shift < 15 }
     ensures { result ≡ forward_odd_rows shift d0 d1 d2 d3 }
 {

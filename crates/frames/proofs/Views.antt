@@ -107,7 +107,7 @@ module _ (w h : ℕ) (interlaced : Bool) (quality shift : ℕ) (size : size_ok w
         let d : dc_streams w h f ≡ accepted (length head + length dc) = dc_walked w h interlaced quality shift size small s ss count dcs (ac ++ behind) in
         let p : length head + length dc ≡ length (head ++ dc) = sym (length-append head dc) in
         by_count w h f true k (a ∷ rest) read (omega (arith, c)) (λ m.
-        ap (bytes_of f) (view_yes w h f true k read m refl ∙ sym (ac_nth w h f k (length head + length dc) refl refl d))
+        ap (bytes_of f) (view_yes w h f true k read m refl ∙ sym (ac_nth w h f k (length head + length dc) refl refl refl d))
         ∙ ap₂ (λ (x : List ℕ) (q : ℕ). bytes_of x (nth_stream k (max_ac_len w) x q)) e p
         ∙ nth_back (max_ac_len w) (ac_limit w h interlaced quality shift size small s ss count dcs) (head ++ dc) (a ∷ rest) behind l k (omega (arith, c)))
 

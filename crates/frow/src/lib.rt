@@ -5,7 +5,6 @@ mod factors;
 pub mod rounding;
 pub mod sides;
 pub mod steps;
-pub mod ten;
 
 ghost use Rattle.std.specs.Prelude.{◌≡◌};
 ghost use Rattle.frow.specs.Rows.{forward_rows_of};
@@ -13,17 +12,18 @@ ghost use Rattle.frow.specs.Rows.{forward_rows_of};
 use crate::rounding::ends;
 use crate::sides::sides;
 use crate::steps::{pairs, swapped};
+use sample::Sample;
 
-// The row pass of a block.
-pub fn row_pass(c: [i16; 64]) -> [i16; 64]
+// The row pass of a block. Each depth has its own: so the compiler makes it part of the plane's loop.
+pub fn row_pass<S: Sample>(c: [i16; 64]) -> [i16; 64]
     ensures { result ≡ forward_rows_of c }
 {
-    let v = sides(c);
+    let v = sides::<S>(c);
     let s = v.sums;
     let d = v.diffs;
     let m0 = pairs(s, factors::EVEN_NEAR);
     let m1 = pairs(swapped(s), factors::EVEN_FAR);
     let m2 = pairs(d, factors::ODD_NEAR);
     let m3 = pairs(swapped(d), factors::ODD_FAR);
-    ends(m0, m1, m2, m3)
+    ends::<S>(m0, m1, m2, m3)
 }

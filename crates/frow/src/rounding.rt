@@ -6,6 +6,7 @@ use lanes::packs::packs32;
 use lanes::rows::{put, wide};
 use lanes::splat32;
 use lanes::wide::{add32, srai32};
+use sample::Sample;
 
 // Two pairs added, rounded and shifted by 16.
 pub fn rounded(near: [i32; 4], far: [i32; 4]) -> [i32; 4]
@@ -22,7 +23,7 @@ pub fn weave(a: [i16; 8]) -> [i16; 8]
 }
 
 // Even and odd coefficients of each row, from their pairs.
-pub fn ends(m0: [i32; 32], m1: [i32; 32], m2: [i32; 32], m3: [i32; 32]) -> [i16; 64]
+pub fn ends<S: Sample>(m0: [i32; 32], m1: [i32; 32], m2: [i32; 32], m3: [i32; 32]) -> [i16; 64]
     ensures { result ≡ ends_of m0 m1 m2 m3 }
 {
     let mut w = [0i16; 64];

@@ -4,6 +4,7 @@ ghost use Rattle.frow.specs.sides.Halves.{row_sides_of, sides_of};
 
 use lanes::rows::{put, row};
 use lanes::sums::{adds, subs};
+use sample::Sample;
 use shuffles::{shuffle32_16, shufflehi};
 
 // Of a row, the sums of opposite lanes, twice, and their differences, twice.
@@ -31,7 +32,7 @@ pub fn row_sides(x: [i16; 8]) -> RowSides
 }
 
 // Two rows a turn: so the compiler works along a row, not across rows.
-pub fn sides(c: [i16; 64]) -> SideBlocks
+pub fn sides<S: Sample>(c: [i16; 64]) -> SideBlocks
     ensures { result ≡ sides_of c }
 {
     let mut sums = [0i16; 64];
@@ -40,10 +41,8 @@ pub fn sides(c: [i16; 64]) -> SideBlocks
         for h in 0..2 {
             let r = 2 * p + h;
             let v = row_sides(row(&c, r));
-            let s = v.sums;
-            let d = v.diffs;
-            put(&mut sums, r, s);
-            put(&mut diffs, r, d);
+            put(&mut sums, r, v.sums);
+            put(&mut diffs, r, v.diffs);
         }
     }
     SideBlocks { sums, diffs }

@@ -1,22 +1,19 @@
 -- Sizes: of the block's numbers and samples, and that a sample fits its type.
 use mathlib.Core.Path.{◌≡◌, refl, sym, ap, ◌∙◌}
-use mathlib.Core.Bool.{Bool, true, false}
+use mathlib.Core.Bool.{Bool, false}
 use mathlib.Core.List.{List}
-use Prim.Native.Nat.{ℕ, min, ◌*◌, ◌/◌, ◌%◌, ◌<◌, ◌≤◌}
-use native.Mathlib.Omega.{arith}
-use lib.Dec.{ltb}
-use lib.IntN.{ℤ, pos, negsuc}
+use Prim.Native.Nat.{ℕ, ◌/◌, ◌%◌, ◌<◌}
+use lib.IntN.{ℤ, pos}
 use lib.ListN.{length}
-use lib.Signed.{lt_z}
-use borrow.Author.Tests.{ltb-true, ltb-false, le-ltb}
-use mir.Val.{sel}
-use Rattle.scalar.specs.Scalar.{adds_of, packus_of, min_of, max_of}
+use Rattle.scalar.specs.Scalar.{adds_of}
 use Rattle.scalar.specs.Tab.{tab}
 use Rattle.scalar.proofs.Fill.{length_tab, get_d_tab, tab_ext}
 use Rattle.irow.specs.RowPass.{lane, inverse_rows_of}
 use Rattle.irow.specs.Stages.{pair_up_of, inverse_mirror_of, paired_rows, inverse_tab}
 use Rattle.irow.proofs.Pass.{rows_law}
-use Rattle.paint.specs.Samples.{ten_of, sample_of, flat_sample}
+use Rattle.sample.specs.Depth.{Depth, is_ten}
+pub use Rattle.sample.proofs.Clamps.{sample_top, sample_lt}
+use Rattle.paint.specs.Samples.{sample_of, flat_sample}
 use Rattle.idct.specs.columns.Columns.{eight_at, inverse_column_at, inverse_columns_of, level_added_of}
 use Rattle.idct.proofs.columns.Mirror.{columns_mirror}
 use Rattle.idct.proofs.columns.Level.{columns_level}
@@ -40,59 +37,9 @@ pub sample_at_lem : (ten : Bool) (v : List ℤ) (i : ℕ) → i < 64 → sample_
 unfolding samples_of
 sample_at_lem ten v i h = get_d_tab 64 (λ i. sample_of ten (lane v i)) i 0 h
 
--- how many values a sample of each depth has
-abbrev pub sample_top : Bool → ℕ
-sample_top false = 256
-sample_top true = 65536
-
-pub sample_lt : (ten : Bool) (z : ℤ) → sample_of ten z < sample_top ten
-unfolding packus_of ten_of
-sample_lt false (pos n) = omega arith
-sample_lt false (negsuc n) = omega arith
-sample_lt true (pos n) = omega arith
-sample_lt true (negsuc n) = omega arith
-
 pub flat_lt : (level dc : ℤ) → flat_sample level dc < 256
 unfolding flat_sample
 flat_lt level dc = sample_lt false _
-
--- the 10-bit sample of a clamped number
-abbrev pub clamped : ℤ → ℤ
-clamped z = max_of (min_of z (pos 1023)) (pos 0)
-
-abbrev pub least : ℤ → ℕ
-least (pos n) = min n 1023
-least (negsuc n) = 0
-
-pub clamp_is : (z : ℤ) → clamped z ≡ pos (least z)
-unfolding max_of min_of
-clamp_is (pos n) = go (ltb n 1023) refl
-  where
-    go : (t : Bool) → ltb n 1023 ≡ t → max_of (sel t (pos n) (pos 1023)) (pos 0) ≡ pos (min n 1023)
-    go true e =
-        let h : n < 1023 = ltb-true n 1023 e in
-        rw (le-ltb n 0 (omega arith)) (ap pos (omega arith))
-    go false e =
-        let h : 1023 ≤ n = ltb-false n 1023 e in
-        ap pos (omega arith)
-clamp_is (negsuc n) = refl
-
-pub least_small : (z : ℤ) → least z ≤ 1023
-least_small (pos n) = omega arith
-least_small (negsuc n) = omega arith
-
-pub least_ten : (z : ℤ) → least z * 64 ≡ ten_of z
-unfolding ten_of
-least_ten (pos n) = refl
-least_ten (negsuc n) = refl
-
--- a sample of 8 bits is that of the number with 0 for what is below 0
-pub from_zero : (x : ℤ) → packus_of (max_of x (pos 0)) ≡ packus_of x
-unfolding packus_of max_of
-from_zero (pos n) =
-    let e : lt_z (pos n) (pos 0) ≡ false = le-ltb n 0 (omega arith) in
-    rw e refl
-from_zero (negsuc n) = refl
 
 -- the samples of numbers whose level was still to be added
 pub level_samples : (ten : Bool) (level : ℤ) (v : List ℤ) → tab 64 (λ i. sample_of ten (adds_of (lane v i) level)) ≡ samples_of ten (level_added_of level v)
@@ -110,8 +57,9 @@ paired_law ten a =
     ap (λ (w : List ℤ). inverse_mirror_of (inverse_columns_of (col_round ten) (col_corr ten) (col_shift ten) (pos 0) w)) (rows_law (row_round ten) (row_shift ten) a)
     ∙ columns_mirror (col_round ten) (col_corr ten) (col_shift ten) (pos 0) (inverse_rows_of (row_round ten) (row_shift ten) a)
 
--- the calls of a depth's inverse in order
-pub passes : (ten : Bool) (b : List ℤ) {w v r : List ℤ} → w ≡ paired_rows (row_round ten) (row_shift ten) b inverse_tab
-    → v ≡ inverse_columns_of (col_round ten) (col_corr ten) (col_shift ten) (pos 0) w → r ≡ inverse_mirror_of v → r ≡ inverse_of_paired ten b
+-- the calls of `inverse` in order, by the numbers of the depth
+pub passes : (depth : Depth) (b : List ℤ) {round : ℤ} {shift : ℕ} {col_round' col_corr' : ℤ} {col_shift' : ℕ} {w v r : List ℤ}
+    → round ≡ row_round (is_ten depth) → shift ≡ row_shift (is_ten depth) → col_round' ≡ col_round (is_ten depth) → col_corr' ≡ col_corr (is_ten depth) → col_shift' ≡ col_shift (is_ten depth)
+    → w ≡ paired_rows round shift b inverse_tab → v ≡ inverse_columns_of col_round' col_corr' col_shift' (pos 0) w → r ≡ inverse_mirror_of v → r ≡ inverse_of_paired (is_ten depth) b
 unfolding inverse_of_paired
-passes ten b ew ev er = rw (er, ev, ew) refl
+passes depth b en es ec ed ef ew ev er = rw (er, ev, ew, en, es, ec, ed, ef) refl

@@ -1,31 +1,11 @@
 -- The inverse transform, over the depth: `ten` is true for 10-bit planes. Document 01: row pass, then column pass; dct.rs has the roundings and shifts.
-use Rattle.std.specs.Prelude.{Bool, true, false, List, ℕ, ℤ, pos}
+use Rattle.std.specs.Prelude.{Bool, List, ℕ, ℤ, pos}
 use Rattle.scalar.specs.Tab.{tab}
 use Rattle.irow.specs.RowPass.{lane, inverse_rows_of}
 use Rattle.irow.specs.Stages.{inverse_tab, inverse_mirror_of, paired_rows}
+pub use Rattle.sample.specs.Numbers.{row_round, row_shift, col_round, col_corr, col_shift}
 use Rattle.paint.specs.Samples.{sample_of}
 use Rattle.idct.specs.columns.Columns.{inverse_columns_of}
-
-abbrev pub row_round : Bool → ℤ
-row_round false = pos 1024
-row_round true = pos 2048
-
-abbrev pub row_shift : Bool → ℕ
-row_shift false = 11
-row_shift true = 12
-
--- the rounding of a column's sums, and of its differences
-abbrev pub col_round : Bool → ℤ
-col_round false = pos 32
-col_round true = pos 16
-
-abbrev pub col_corr : Bool → ℤ
-col_corr false = pos 31
-col_corr true = pos 15
-
-abbrev pub col_shift : Bool → ℕ
-col_shift false = 6
-col_shift true = 5
 
 -- 64 dequantised coefficients in natural order become 64 numbers, level added, not clamped
 unfoldable pub inverse_of : Bool → ℤ → List ℤ → List ℤ

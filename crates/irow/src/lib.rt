@@ -1,10 +1,9 @@
 // The row pass of the inverse transform, row by row on eight lanes by value; only the products of neighbours are one loop over the block,
-// which the compiler needs (irow::pairs). A depth's rounding and shift, and its path, are in irow::eight and irow::ten.
+// which the compiler needs (irow::pairs). The pass is irow::rows, generic over the samples, which fix its rounding and its shift.
 #![tactic(auto)]
 
-pub mod eight;
 pub mod pairs;
-pub mod ten;
+pub mod rows;
 
 // The tables of the eight rows, in the order in which the pairs are spread.
 pub const TABLE: [i16; 256] = [

@@ -8,7 +8,7 @@ use native.Mathlib.Omega.{arith}
 use lib.ListN.{drop, get_or}
 use Rattle.ask.specs.Ask.{Answer, refused, accepted}
 use Rattle.ask.specs.Limits.{stride_max}
-use Rattle.bits.specs.Bits.{Stream, bit_at}
+use Rattle.bits.specs.Bits.{bit_at}
 use Rattle.bits.specs.Read.{read_symbol, read_dc}
 use Rattle.bitreader.specs.scan.Six.{no_six_zeros}
 use Rattle.bitreader.proofs.scan.Codes.{SymbolTo, DcTo, symbol_to, code_to, no_symbol, no_dc}

@@ -2,10 +2,10 @@
 use mathlib.Core.Path.{◌≡◌, refl, sym, ap, ◌∙◌}
 use mathlib.Core.Bool.{Bool, true, false}
 use mathlib.Core.List.{List, [], ◌∷◌}
-use Prim.Native.Nat.{ℕ, zero, suc, ◌+◌, ◌-◌, ◌*◌, ◌/◌, ◌^◌, ◌≤◌, ◌<◌}
+use Prim.Native.Nat.{ℕ, zero, suc, ◌+◌, ◌*◌, ◌≤◌, ◌<◌}
 use native.Mathlib.Numerals.{add-one}
 use native.Mathlib.Omega.{arith}
-use mir.Syntax.{w8, w64}
+use mir.Syntax.{w8}
 use mir.Val.{Fits}
 use lib.ListN.{length, take, drop, get_or, length-drop}
 use lib.Seq.{drop-cons, length-take-le, get_or-take}
@@ -72,24 +72,6 @@ module _ (read : ℕ → ℕ → Answer ℕ) (ws : List ℕ) (at k x : ℕ) (i :
         by_answer (refused n) o d = absurd (let z : ◌≡◌ {A = ℕ} 0 1 = cc in omega arith)
         by_answer (accepted r) o d = let z : q ≡ r = cc in omega (arith, o.1)
 
--- the numbers of a loop over at most four planes
-module _ {k count : ℕ} (h : k < count) where
-  pub one_more : k + 1 ≤ count
-  one_more = omega arith
-
-  pub fewer_left : count - (k + 1) < count - k
-  fewer_left = omega arith
-
-  module _ (most : count ≤ 4) where
-    pub below_four : k < 4
-    below_four = omega arith
-
-    pub turn_fits : Fits w64 (k + 1)
-    turn_fits = omega arith
-
-    pub still_near : {at x : ℕ} → at < 2 ^ 30 → x ≤ at + 1720320 * k → x < 2 ^ 31
-    still_near b n = omega arith
-
 pub of_byte : {x : ℕ} → Fits w8 x → x < 256
 of_byte h = omega arith
 
@@ -107,3 +89,15 @@ module _ (f : Four) (most : f.count ≤ planes_max) where
 
   pub first_at : (k : ℕ) → k < f.count → stride_by f k ≡ get_or (first_strides f) k 0
   first_at k h = one_of f k (omega arith) ∙ sym (get_or-take f.count (stride_by f 0 ∷ stride_by f 1 ∷ stride_by f 2 ∷ stride_by f 3 ∷ []) k 0 h)
+
+-- the strides that a loop goes over are those of the first planes
+pub strides_taken : (f : Four) → length f.strides ≡ 4 → take f.count f.strides ≡ first_strides f
+strides_taken f e = ap (take f.count) (four f.strides e)
+  where
+    four : (l : List ℕ) → length l ≡ 4 → l ≡ get_or l 0 0 ∷ get_or l 1 0 ∷ get_or l 2 0 ∷ get_or l 3 0 ∷ []
+    four [] h = absurd (omega arith)
+    four (a ∷ []) h = absurd (omega arith)
+    four (a ∷ b ∷ []) h = absurd (omega arith)
+    four (a ∷ b ∷ c ∷ []) h = absurd (omega arith)
+    four (a ∷ b ∷ c ∷ d ∷ []) h = refl
+    four (a ∷ b ∷ c ∷ d ∷ x ∷ l) h = absurd (omega arith)

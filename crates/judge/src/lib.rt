@@ -14,11 +14,11 @@ ghost use Rattle.acread.specs.through.Through.{end_says};
 ghost use Rattle.blockread.specs.On.{good_plane};
 ghost use Rattle.judge.specs.Good.{good_planes, strides, first_strides, StridesFit, stream_plane, good_in_turn};
 
-use acread::through::PlaneEnd;
+use ask::Refusal;
 use calls::{Four, Positions};
 
 // Where one of a plane's streams ends, the DC or the AC stream.
-fn through(dc: bool, bytes: &[u8], at: usize, stride: usize) -> PlaneEnd
+fn through(dc: bool, bytes: &[u8], at: usize, stride: usize) -> Result<usize, Refusal>
     requires { (at < 2 ^ 31) × (stride ≤ stride_max) }
     ensures { end_says result ≡ stream_plane dc bytes.now stride at }
 {
@@ -37,18 +37,12 @@ fn stream_good(dc: bool, bytes: &[u8], from: usize, f: Four) -> bool
     if bitreader::scan::no_six_zeros(bytes, from) {
         return true;
     }
-    let count = f.count;
-    let strides = f.strides;
     let mut at = from;
-    let mut k = 0;
-    while k < count {
-        match through(dc, bytes, at, strides[k]) {
-            PlaneEnd::At(e) => {
-                at = e;
-            }
-            PlaneEnd::Refused(n) => return false,
-        }
-        k += 1;
+    for stride in f.strides() {
+        let Ok(end) = through(dc, bytes, at, *stride) else {
+            return false;
+        };
+        at = end;
     }
     true
 }
@@ -58,10 +52,7 @@ pub fn plane(dc: &[u8], ac: &[u8], columns: usize, at: Positions) -> bool
     requires { (at.dc < 2 ^ 30) × (at.ac < 2 ^ 30) × (columns ≤ 960) }
     ensures { (shift : ℕ) → result ≡ good_plane (read_plane shift (2 * columns) dc.now ac.now at.dc at.ac) }
 {
-    if acread::through::dc_good(dc, at.dc, columns) {
-        return acread::through::ac_good(ac, at.ac, columns);
-    }
-    false
+    acread::through::dc_good(dc, at.dc, columns) && acread::through::ac_good(ac, at.ac, columns)
 }
 
 // No bad code in the streams of the first of four planes, from these positions on.
@@ -70,8 +61,5 @@ pub fn slice(dc: &[u8], ac: &[u8], f: Four, at: Positions) -> bool
     ensures { (shift : ℕ) (ps : List Plane) → strides ps ≡ first_strides f
         → result ≡ good_planes (read_planes shift ps (buffers dc.now ac.now) (positions_by at)) }
 {
-    if stream_good(true, dc, at.dc, f) {
-        return stream_good(false, ac, at.ac, f);
-    }
-    false
+    stream_good(true, dc, at.dc, f) && stream_good(false, ac, at.ac, f)
 }

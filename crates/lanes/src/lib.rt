@@ -1,8 +1,9 @@
-// Vectors of 128 bits as arrays of lanes. The operations of lanes.rs on them, one loop over the lanes each, are in the modules of lanes;
-// the definitions of all of them (specs/Lanes.antt) and the loop's law (proofs/Turns.antt) are here, and how a vector is made.
+// Vectors of 128 bits as arrays of lanes. The operations of lanes.rs on them are in the modules of lanes, one call of map1 or map2 each
+// (maps); the definitions of all of them (specs/Lanes.antt) are here, and how a vector is made.
 // Each means what the Intel intrinsic does whose name its definition has.
 #![tactic(auto)]
 
+pub mod maps;
 pub mod order;
 pub mod packs;
 pub mod pair_products;
@@ -15,6 +16,8 @@ pub mod wide;
 
 ghost use Rattle.std.specs.Prelude.{◌≡◌};
 ghost use Rattle.lanes.specs.Lanes.{mm_set1_epi16, mm_set1_epi32, mm_loadu_si128};
+
+use crate::maps::map1;
 
 // v in each of eight lanes.
 pub fn splat(v: i16) -> [i16; 8]
@@ -34,9 +37,5 @@ pub fn splat32(v: i32) -> [i32; 4]
 pub fn load_u(t: [u16; 8]) -> [i16; 8]
     ensures { result ≡ mm_loadu_si128 t }
 {
-    let mut r = [0i16; 8];
-    for k in 0..8 {
-        r[k] = scalar::signed16(t[k]);
-    }
-    r
+    map1(t, scalar::signed16)
 }

@@ -2,7 +2,7 @@
 ghost use Rattle.std.specs.Prelude.{◌≡◌};
 ghost use Rattle.lanes.specs.Lanes.{mm_madd_epi16};
 
-// The products of each pair of lanes, added; the sum wraps at 32 bits.
+// The products of each pair of lanes, added; the sum wraps at 32 bits. A loop by index: maps says why.
 pub fn madd(a: [i16; 8], b: [i16; 8]) -> [i32; 4]
     ensures { result ≡ mm_madd_epi16 a b }
 {

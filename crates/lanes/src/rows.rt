@@ -1,20 +1,28 @@
 // Rows of lanes, taken out of a block by value and put into one.
-ghost use Rattle.std.specs.Prelude.{◌≡◌, ◌*◌, ◌<◌, ◌≤◌};
+ghost use Rattle.std.specs.Prelude.{◌≡◌, ℕ, ◌+◌, ◌*◌, ◌<◌, ◌≤◌, length, slice_index_or};
 ghost use Rattle.lanes.specs.rows.Block.{row_of, put_of, wide_of, numbers_of};
+
+// N elements of s, from place `at` on. A loop by index: maps says why.
+pub fn part<T: Copy + Default, const N: usize>(s: &[T], at: usize) -> [T; N]
+    requires { at + N ≤ length s.now }
+    ensures { (k : ℕ) (x : T) → k < N → slice_index_or result k x ≡ slice_index_or s.now (at + k) x }
+{
+    let mut r = [T::default(); N];
+    for k in 0..N {
+        r[k] = s[at + k];
+    }
+    r
+}
 
 // Row r of a block.
 pub fn row(b: &[i16; 64], r: usize) -> [i16; 8]
     requires { r < 8 }
     ensures { result ≡ row_of b.now r }
 {
-    let mut x = [0i16; 8];
-    for k in 0..8 {
-        x[k] = b[8 * r + k];
-    }
-    x
+    part(b, 8 * r)
 }
 
-// Stores row r of a block.
+// Stores row r of a block. A loop by index: maps says why.
 pub fn put(b: &mut [i16; 64], r: usize, x: [i16; 8])
     requires { r < 8 }
     ensures { b.new ≡ put_of b.old r x }
@@ -29,7 +37,7 @@ pub fn wide(m: &[i32; 32], r: usize) -> [i32; 4]
     requires { r < 8 }
     ensures { result ≡ wide_of m.now r }
 {
-    [m[4 * r], m[4 * r + 1], m[4 * r + 2], m[4 * r + 3]]
+    part(m, 4 * r)
 }
 
 // The divisors of row r of a block.
@@ -37,11 +45,7 @@ pub fn numbers(d: &[u16; 64], r: usize) -> [u16; 8]
     requires { r < 8 }
     ensures { result ≡ numbers_of d.now (8 * r) }
 {
-    let mut x = [0u16; 8];
-    for k in 0..8 {
-        x[k] = d[8 * r + k];
-    }
-    x
+    part(d, 8 * r)
 }
 
 // Eight of a preset's quantiser numbers, from place `at` on.
@@ -49,9 +53,5 @@ pub fn numbers_at(t: &[u16; 192], at: usize) -> [u16; 8]
     requires { at ≤ 184 }
     ensures { result ≡ numbers_of t.now at }
 {
-    let mut x = [0u16; 8];
-    for k in 0..8 {
-        x[k] = t[at + k];
-    }
-    x
+    part(t, at)
 }

@@ -2,15 +2,13 @@
 ghost use Rattle.std.specs.Prelude.{◌≡◌, ◌<◌};
 ghost use Rattle.lanes.specs.Lanes.{mm_or_si128, mm_srai_epi16, mm_slli_epi16};
 
+use crate::maps::{map1, map2};
+
 // The bits of both.
 pub fn or16(a: [i16; 8], b: [i16; 8]) -> [i16; 8]
     ensures { result ≡ mm_or_si128 a b }
 {
-    let mut r = [0i16; 8];
-    for k in 0..8 {
-        r[k] = scalar::or1(a[k], b[k]);
-    }
-    r
+    map2(a, b, scalar::or1)
 }
 
 // Shifted right by n; rounds down.
@@ -18,11 +16,7 @@ pub fn srai16(a: [i16; 8], n: u32) -> [i16; 8]
     requires { n < 16 }
     ensures { result ≡ mm_srai_epi16 a n }
 {
-    let mut r = [0i16; 8];
-    for k in 0..8 {
-        r[k] = scalar::sra16(a[k], n);
-    }
-    r
+    map1(a, |x| scalar::sra16(x, n))
 }
 
 // Shifted left by n; the bits above drop.
@@ -30,9 +24,5 @@ pub fn slli16(a: [i16; 8], n: u32) -> [i16; 8]
     requires { n < 16 }
     ensures { result ≡ mm_slli_epi16 a n }
 {
-    let mut r = [0i16; 8];
-    for k in 0..8 {
-        r[k] = scalar::sll16(a[k], n);
-    }
-    r
+    map1(a, |x| scalar::sll16(x, n))
 }

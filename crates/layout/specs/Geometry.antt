@@ -1,6 +1,6 @@
 -- Frame geometry (layout.rs). Document 01, 'Frame'.
-use Rattle.std.specs.Prelude.{Bool, true, false, ◌&&◌, ◌||◌, cond, List, [], ◌∷◌, ℕ, zero, suc, ◌+◌, ◌-◌, ◌*◌, ◌/◌, ◌%◌, leb, ltb, eqb}
-use Rattle.ask.specs.Ask.{Answer, refused, accepted, Question, ask, asked}
+use Rattle.std.specs.Prelude.{Bool, true, false, ◌&&◌, ◌||◌, [], ◌∷◌, ℕ, ◌+◌, ◌-◌, ◌*◌, ◌/◌, ◌%◌, leb, ltb, eqb}
+use Rattle.ask.specs.Ask.{Answer, accepted, Question, ask, asked}
 use Rattle.ask.specs.Limits.{side_min, width_max, height_max, rows_high}
 use Rattle.ask.specs.Numbers.{no_size}
 

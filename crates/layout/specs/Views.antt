@@ -1,13 +1,10 @@
 -- What the code's types say, in the definitions' terms. One function for each type.
-use Rattle.std.specs.Prelude.{Bool, true, false}
-use Rattle.ask.specs.Ask.{Answer, refused, accepted}
-use Rattle.layout.specs.Geometry.{aligned_height, max_dc_len, max_ac_len, Geometry, ImageRow, padding, row}
-use Rattle.layout.specs.declared.Kind.TheVariants as kind
+use Rattle.std.specs.Prelude.{Bool, true, false, ℕ, Option, None, Some, Result}
+use Rattle.ask.specs.Ask.{Answer}
+use Rattle.ask.specs.Refusals.{answer}
+use Rattle.ask.specs.declared.refusal.Refusal.{Refusal}
+use Rattle.layout.specs.Geometry.{Geometry, ImageRow, padding, row}
 use Rattle.layout.specs.declared.Layout.{Layout}
-use Rattle.layout.specs.declared.LayoutAnswer.{LayoutAnswer}
-use Rattle.layout.specs.declared.LayoutAnswer.TheVariants as layout
-use Rattle.layout.specs.declared.RowAnswer.{RowAnswer}
-use Rattle.layout.specs.declared.RowAnswer.TheVariants as rows
 use Rattle.layout.specs.declared.Kind.{Kind}
 use Rattle.layout.specs.declared.Kind.TheVariants as kind
 
@@ -24,13 +21,12 @@ geometry l =
       max_ac_len = l.max_ac_len;
     }
 
-abbrev pub layout_says : LayoutAnswer → Answer Geometry
-layout_says (layout.Fits l) = accepted (geometry l)
-layout_says (layout.Refused n) = refused n
+abbrev pub layout_says : Result Layout Refusal → Answer Geometry
+layout_says r = answer geometry r
 
-abbrev pub row_says : RowAnswer → ImageRow
-row_says (rows.Row r) = row r
-row_says rows.Padding = padding
+abbrev pub row_says : Option ℕ → ImageRow
+row_says (Some r) = row r
+row_says None = padding
 
 -- the AC streams are wanted
 abbrev pub is_ac : Kind → Bool

@@ -1,15 +1,16 @@
 // Frame geometry (layout.rs): the sizes of a frame's planes and streams, and which image row is where.
 #![tactic(auto)]
 
-ghost use Rattle.std.specs.Prelude.{◌≡◌, [], ◌∷◌, ◌≤◌};
+ghost use Rattle.std.specs.Prelude.{◌≡◌, [], ◌∷◌, ◌≤◌, IfOk};
 ghost use Rattle.ask.specs.Ask.{first_no};
+ghost use Rattle.ask.specs.Refusals.{given};
 ghost use Rattle.ask.specs.Limits.{width_max, height_max};
-ghost use Rattle.layout.specs.Geometry.{align_up, width_ok, height_ok, size_ok, size_question, layout_of};
+ghost use Rattle.layout.specs.Geometry.{align_up, width_ok, height_ok, size_ok, size_question, layout_of, field_row};
 ghost use Rattle.layout.specs.Geometry.{aligned_height, slice_count, max_dc_len, max_ac_len, interlace_capable, image_row_of, preview_width, preview_height};
 ghost use Rattle.layout.specs.Views.{layout_says, row_says};
 
 use ask::limits::{HEIGHT_MAX, ROWS, SIDE_MIN, WIDTH_MAX};
-use ask::numbers::NO_SIZE;
+use ask::{Refusal, ask};
 
 // Bytes that a stream may have for each sample of plane 0's stride.
 const DC_PER_SAMPLE: usize = 32;
@@ -17,7 +18,7 @@ const DC_PER_SAMPLE: usize = 32;
 const AC_PER_SAMPLE: usize = 56;
 
 // The geometry of one frame size: strides in samples, stream limits in bytes.
-#[derive(Clone, Copy)]
+#[derive(Clone, Copy, Debug, PartialEq, Eq, Hash)]
 pub struct Layout {
     pub width: usize,
     pub height: usize,
@@ -31,40 +32,51 @@ pub struct Layout {
     pub max_ac_len: usize,
 }
 
-#[derive(Clone, Copy)]
-pub enum LayoutAnswer {
-    Fits(Layout),
-    Refused(u32),
+// A size that frames have: question 9 is answered yes.
+#[derive(Clone, Copy, Debug, PartialEq, Eq, Hash)]
+pub struct FrameSize {
+    pub width: usize,
+    pub height: usize,
+    ghost wide: { width ≤ width_max },
+    ghost high: { height ≤ height_max },
+}
+
+impl FrameSize {
+    // The size, or refusal 9.
+    pub fn new(width: usize, height: usize) -> Result<FrameSize, Refusal>
+        ensures asked { given result ≡ first_no (size_question width height ∷ []) }
+        ensures same { IfOk result (λ size. (size.width ≡ width) × (size.height ≡ height)) }
+    {
+        size_asked(width, height)?;
+        Ok(FrameSize { width, height })
+    }
 }
 
 fn width_ok(width: usize) -> bool
     ensures { result ≡ width_ok width }
 {
-    let sizes = ask::both(SIDE_MIN <= width, width <= WIDTH_MAX);
-    ask::both(width % 2 == 0, sizes)
+    width % 2 == 0 && SIDE_MIN <= width && width <= WIDTH_MAX
 }
 
 fn height_ok(height: usize) -> bool
     ensures { result ≡ height_ok height }
 {
-    ask::both(SIDE_MIN <= height, height <= HEIGHT_MAX)
+    SIDE_MIN <= height && height <= HEIGHT_MAX
 }
 
 // Whether question 9 is answered yes: width even, 16 to 7,680, height 16 to 4,320.
 pub fn size_ok(width: usize, height: usize) -> bool
     ensures { result ≡ size_ok width height }
 {
-    let wide = width_ok(width);
-    let high = height_ok(height);
-    ask::both(wide, high)
+    width_ok(width) && height_ok(height)
 }
 
-// Question 9, put alone: its number, 0 where the answer is yes.
-pub fn size_number(width: usize, height: usize) -> u32
-    ensures { result ≡ first_no (size_question width height ∷ []) }
+// Question 9, put alone.
+#[tactic(auto, unfolding(ask::specs::Ask::first_no))]
+pub fn size_asked(width: usize, height: usize) -> Result<(), Refusal>
+    ensures { given result ≡ first_no (size_question width height ∷ []) }
 {
-    let size = size_ok(width, height);
-    ask::or_else(size, NO_SIZE, 0)
+    ask(size_ok(width, height), Refusal::Size)
 }
 
 // v rounded up to a multiple of 8.
@@ -109,28 +121,19 @@ pub fn max_ac_len(width: usize) -> usize
 
 impl Layout {
     // The geometry of a frame size, or refusal 9.
-    pub fn new(width: usize, height: usize) -> LayoutAnswer
+    pub fn new(width: usize, height: usize) -> Result<Layout, Refusal>
         ensures { layout_says result ≡ layout_of width height }
     {
-        let x = size_number(width, height);
-        if 0 < x {
-            return LayoutAnswer::Refused(x);
-        }
-        let luma = align8(width);
-        let chroma = align8(width / 2);
-        let aligned_height = aligned_height(height);
-        let slices = slice_count(height);
-        let max_dc_len = max_dc_len(width);
-        let max_ac_len = max_ac_len(width);
-        LayoutAnswer::Fits(Layout {
+        let size = FrameSize::new(width, height)?;
+        Ok(Layout {
             width,
             height,
-            aligned_height,
-            slices,
-            luma,
-            chroma,
-            max_dc_len,
-            max_ac_len,
+            aligned_height: aligned_height(size.height),
+            slices: slice_count(size.height),
+            luma: align8(size.width),
+            chroma: align8(size.width / 2),
+            max_dc_len: max_dc_len(size.width),
+            max_ac_len: max_ac_len(size.width),
         })
     }
 }
@@ -139,49 +142,38 @@ impl Layout {
 pub fn interlace_capable(height: usize) -> bool
     ensures { result ≡ interlace_capable height }
 {
-    if height == 480 {
-        true
-    } else if height == 576 {
-        true
-    } else {
-        height == 1080
+    height == 480 || height == 576 || height == 1080
+}
+
+// The image row of a field's row: the top field (parity 0) has the even rows, the bottom field (1) the odd ones.
+fn field_row(height: usize, f: usize, parity: usize) -> Option<usize>
+    requires { (height ≤ height_max) × (parity ≤ 1) }
+    ensures { row_says result ≡ field_row height f parity }
+{
+    if f < height / 2 {
+        return Some(2 * f + parity);
     }
+    None
 }
 
-#[derive(Clone, Copy)]
-pub enum RowAnswer {
-    Row(usize),
-    Padding,
-}
-
-// The image row that lies in row r of the coded planes.
-pub fn image_row(height: usize, r: usize, interlaced: bool) -> RowAnswer
+// The image row that lies in row r of the coded planes; none of a padding row.
+#[tactic(auto, unfolding(crate::specs::Geometry::image_row_of))]
+pub fn image_row(height: usize, r: usize, interlaced: bool) -> Option<usize>
     requires { height ≤ height_max }
     ensures { row_says result ≡ image_row_of height r interlaced }
 {
     if interlaced {
         let half = aligned_height(height) / 2;
-        let fields = height / 2;
         if r < half {
-            if r < fields {
-                return RowAnswer::Row(2 * r);
-            }
-            return RowAnswer::Padding;
+            return field_row(height, r, 0);
         }
-        let f = r - half;
-        if f < fields {
-            return RowAnswer::Row(2 * f + 1);
-        }
-        return RowAnswer::Padding;
+        return field_row(height, r - half, 1);
     }
-    if r < height {
-        RowAnswer::Row(r)
-    } else {
-        RowAnswer::Padding
-    }
+    if r < height { Some(r) } else { None }
 }
 
 // The width of the 1/8 preview.
+#[tactic(auto, unfolding(crate::specs::Geometry::preview_width))]
 pub fn preview_width(width: usize) -> usize
     ensures { result ≡ preview_width width }
 {
@@ -189,6 +181,7 @@ pub fn preview_width(width: usize) -> usize
 }
 
 // The height of the 1/8 preview.
+#[tactic(auto, unfolding(crate::specs::Geometry::preview_height))]
 pub fn preview_height(height: usize, interlaced: bool) -> usize
     ensures { result ≡ preview_height height interlaced }
 {
@@ -197,7 +190,7 @@ pub fn preview_height(height: usize, interlaced: bool) -> usize
 }
 
 // The streams of a slice: its DC stream or its AC stream.
-#[derive(Clone, Copy)]
+#[derive(Clone, Copy, Debug, PartialEq, Eq, Hash)]
 pub enum Kind {
     Dc,
     Ac,

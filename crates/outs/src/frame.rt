@@ -14,10 +14,12 @@ ghost use Rattle.outs.specs.frame.Outs.{is_on, flag_of, handed, handed_by, row_p
 ghost use Rattle.outs.specs.frame.Outs.{layout_places, layout_parts, frame_places, frame_parts, view_places, view_parts, empty_part};
 ghost use Rattle.outs.specs.frame.Outs.{build_places, build_parts};
 
-use builder::HeaderAnswer;
-use builder::streams::{CompleteAnswer, StreamAnswer};
-use layout::{Kind, LayoutAnswer, RowAnswer};
-use parser::{FrameAnswer, ViewAnswer};
+use ask::Refusal;
+use builder::Builder;
+use builder::streams::Refused;
+use layout::{Kind, Layout};
+use parser::View;
+use parser::head::Header;
 
 // A truth value as a number.
 pub fn flag(b: bool) -> u32
@@ -42,7 +44,7 @@ pub fn from_new(verdict: u32) -> u32
 
 // Of a size's geometry.
 pub fn layout_out(
-    answer: LayoutAnswer,
+    answer: Result<Layout, Refusal>,
     aligned_height: &mut usize,
     slices: &mut usize,
     luma: &mut usize,
@@ -58,8 +60,8 @@ pub fn layout_out(
         max_dc_len.old max_ac_len.old) }
 {
     match answer {
-        LayoutAnswer::Refused(x) => x,
-        LayoutAnswer::Fits(l) => {
+        Err(no) => no.number(),
+        Ok(l) => {
             *aligned_height = l.aligned_height;
             *slices = l.slices;
             *luma = l.luma;
@@ -72,12 +74,12 @@ pub fn layout_out(
 }
 
 // Of a coded row: whether it is a row of the image, and which one.
-pub fn row_out(answer: RowAnswer, row: &mut usize) -> u32
+pub fn row_out(answer: Option<usize>, row: &mut usize) -> u32
     ensures { row_places result row.new ≡ row_parts row.old (row_says answer) }
 {
     match answer {
-        RowAnswer::Padding => 0,
-        RowAnswer::Row(i) => {
+        None => 0,
+        Some(i) => {
             *row = i;
             1
         }
@@ -95,7 +97,7 @@ pub fn quality_out(quality: u8, kept: &mut u8, preset: &mut usize)
 
 // Of a frame's header.
 pub fn frame_out(
-    answer: FrameAnswer,
+    answer: Result<Header, Refusal>,
     interlaced: &mut u32,
     quality: &mut u32,
     dc_shift: &mut u32,
@@ -108,11 +110,11 @@ pub fn frame_out(
         (frame_places interlaced.old quality.old dc_shift.old header_len.old ac.old) }
 {
     match answer {
-        FrameAnswer::Refused(x) => x,
-        FrameAnswer::Frame(h) => {
+        Err(no) => no.number(),
+        Ok(h) => {
             *interlaced = flag(h.interlaced);
-            *quality = h.quality as u32;
-            *dc_shift = h.dc_shift as u32;
+            *quality = u32::from(h.quality);
+            *dc_shift = u32::from(h.dc_shift);
             *header_len = h.header_len;
             *ac = flag(h.ac);
             0
@@ -121,33 +123,38 @@ pub fn frame_out(
 }
 
 // Of a slice's stream: where it lies in the frame.
-pub fn view_out(answer: ViewAnswer, offset: &mut usize, len: &mut usize) -> u32
+pub fn view_out(answer: Result<View, Refusal>, offset: &mut usize, len: &mut usize) -> u32
     ensures { handed result (view_places offset.new len.new) ≡ handed_by (view_says answer) view_parts empty_part }
 {
     match answer {
-        ViewAnswer::Refused(x) => {
+        Err(no) => {
             *offset = 0;
             *len = 0;
-            x
+            no.number()
         }
-        ViewAnswer::Part(p, n) => {
-            *offset = p;
-            *len = n;
+        Ok(view) => {
+            *offset = view.offset;
+            *len = view.len;
             0
         }
     }
 }
 
 // Of a header that was written, or not: the builder's state.
-pub fn header_out(answer: HeaderAnswer, ac_turn: &mut u32, next: &mut usize, at: &mut usize) -> u32
+pub fn header_out(
+    answer: Result<Builder, Refusal>,
+    ac_turn: &mut u32,
+    next: &mut usize,
+    at: &mut usize,
+) -> u32
     ensures { (out out' : List ℕ) (a : Answer Built) → HeaderCall answer out out' a → handed result
         (build_places out' ac_turn.new next.new at.new)
         ≡ handed_by a build_parts
         (build_places out ac_turn.old next.old at.old) }
 {
     match answer {
-        HeaderAnswer::Refused(x) => x,
-        HeaderAnswer::Started(b) => {
+        Err(refused) => refused.number(),
+        Ok(b) => {
             *ac_turn = flag(b.ac_turn());
             *next = b.next();
             *at = b.at();
@@ -157,15 +164,20 @@ pub fn header_out(answer: HeaderAnswer, ac_turn: &mut u32, next: &mut usize, at:
 }
 
 // Of a stream that was put, or not: the builder's state.
-pub fn stream_out(answer: StreamAnswer, ac_turn: &mut u32, next: &mut usize, at: &mut usize) -> u32
+pub fn stream_out(
+    answer: Result<Builder, Refused>,
+    ac_turn: &mut u32,
+    next: &mut usize,
+    at: &mut usize,
+) -> u32
     ensures { (was : Builder) (out out' : List ℕ) (a : Answer Built) → StreamCall was answer out out' a → handed result
         (build_places out' ac_turn.new next.new at.new)
         ≡ handed_by a build_parts
         (build_places out ac_turn.old next.old at.old) }
 {
     match answer {
-        StreamAnswer::Refused(x, _) => x,
-        StreamAnswer::Next(s) => {
+        Err(refused) => refused.no.number(),
+        Ok(s) => {
             *ac_turn = flag(s.ac_turn());
             *next = s.next();
             *at = s.at();
@@ -175,12 +187,12 @@ pub fn stream_out(answer: StreamAnswer, ac_turn: &mut u32, next: &mut usize, at:
 }
 
 // Of a frame that is complete, or not.
-pub fn complete_out(answer: CompleteAnswer, complete: &mut u32) -> u32
+pub fn complete_out(answer: Result<bool, Refusal>, complete: &mut u32) -> u32
     ensures { handed result complete.new ≡ handed_by (complete_says answer) flag_of complete.old }
 {
     match answer {
-        CompleteAnswer::Refused(x) => x,
-        CompleteAnswer::Complete(b) => {
+        Err(size) => size.number(),
+        Ok(b) => {
             *complete = flag(b);
             0
         }

@@ -10,9 +10,9 @@ ghost use Rattle.outs.specs.frame.Outs.{handed, handed_by};
 ghost use Rattle.questions.specs.answers.Code.{code_says};
 ghost use Rattle.questions.specs.answers.Read.{read_says};
 
-use acread::through::PlaneEnd;
+use ask::Refusal;
 use calls::Positions;
-use questions::answers::{CodeAnswer, ReadAnswer, SizeAnswer};
+use questions::answers::{Lengths, Refused};
 
 // A number returned, and both positions into their places.
 fn positions_out(number: u32, at: Positions, dc_at: &mut usize, ac_at: &mut usize) -> u32
@@ -24,35 +24,35 @@ fn positions_out(number: u32, at: Positions, dc_at: &mut usize, ac_at: &mut usiz
 }
 
 // Of a coding call: both positions, as they were given where it is refused.
-pub fn coded_out(answer: CodeAnswer, dc_at: &mut usize, ac_at: &mut usize) -> u32
+pub fn coded_out(answer: Result<Positions, Refused>, dc_at: &mut usize, ac_at: &mut usize) -> u32
     ensures { (dcs : List ℕ) (acs : List ℕ)
         → coded_as result dc_at.new ac_at.new dcs acs ≡ content (code_says answer dcs acs) }
 {
     match answer {
-        CodeAnswer::Refused(number, start) => positions_out(number, start, dc_at, ac_at),
-        CodeAnswer::Accepted(end) => positions_out(0, end, dc_at, ac_at),
+        Err(e) => positions_out(e.no.number(), e.start, dc_at, ac_at),
+        Ok(end) => positions_out(0, end, dc_at, ac_at),
     }
 }
 
 // Of a reading call.
-pub fn read_out(answer: ReadAnswer, dc_at: &mut usize, ac_at: &mut usize) -> u32
+pub fn read_out(answer: Result<Positions, Refused>, dc_at: &mut usize, ac_at: &mut usize) -> u32
     ensures { (lent : List (List ℕ))
         → decoded_as result dc_at.new ac_at.new lent ≡ content (read_says answer lent) }
 {
     match answer {
-        ReadAnswer::Refused(number, start) => positions_out(number, start, dc_at, ac_at),
-        ReadAnswer::Accepted(end) => positions_out(0, end, dc_at, ac_at),
+        Err(refused) => positions_out(refused.no.number(), refused.start, dc_at, ac_at),
+        Ok(end) => positions_out(0, end, dc_at, ac_at),
     }
 }
 
 // Of a preview: the position after the plane's DC stream; a refusal leaves the place as it was.
-pub fn preview_out(answer: PlaneEnd, dc_at: &mut usize) -> u32
+pub fn preview_out(answer: Result<usize, Refusal>, dc_at: &mut usize) -> u32
     ensures { (upper : List ℕ) (lower : List ℕ)
         → previewed_as result dc_at.new upper lower ≡ content (preview_says dc_at.old answer upper lower) }
 {
     match answer {
-        PlaneEnd::Refused(n) => n,
-        PlaneEnd::At(p) => {
+        Err(no) => no.number(),
+        Ok(p) => {
             *dc_at = p;
             0
         }
@@ -60,13 +60,13 @@ pub fn preview_out(answer: PlaneEnd, dc_at: &mut usize) -> u32
 }
 
 // Of a block report: the position after the plane's AC stream; a refusal leaves the place as it was.
-pub fn report_out(answer: PlaneEnd, ac_at: &mut usize) -> u32
+pub fn report_out(answer: Result<usize, Refusal>, ac_at: &mut usize) -> u32
     ensures { (bytes : List ℕ)
         → reported_as result ac_at.new bytes ≡ content (report_says ac_at.old answer bytes) }
 {
     match answer {
-        PlaneEnd::Refused(n) => n,
-        PlaneEnd::At(q) => {
+        Err(no) => no.number(),
+        Ok(q) => {
             *ac_at = q;
             0
         }
@@ -74,15 +74,15 @@ pub fn report_out(answer: PlaneEnd, ac_at: &mut usize) -> u32
 }
 
 // Of a size call: both lengths; a refusal leaves their places as they were.
-pub fn size_out(answer: SizeAnswer, dc_len: &mut usize, ac_len: &mut usize) -> u32
+pub fn size_out(answer: Result<Lengths, Refusal>, dc_len: &mut usize, ac_len: &mut usize) -> u32
     ensures { handed result (length_places dc_len.new ac_len.new)
         ≡ handed_by (size_says answer) length_parts (length_places dc_len.old ac_len.old) }
 {
     match answer {
-        SizeAnswer::Refused(n) => n,
-        SizeAnswer::Sized(d, a) => {
-            *dc_len = d;
-            *ac_len = a;
+        Err(refusal) => refusal.number(),
+        Ok(l) => {
+            *dc_len = l.dc;
+            *ac_len = l.ac;
             0
         }
     }

@@ -4,40 +4,31 @@
 pub mod flat_sample;
 pub mod row;
 
-ghost use Rattle.std.specs.Prelude.{◌≡◌, ◌+◌, ◌*◌, ◌≤◌, length};
-ghost use Rattle.ask.specs.Limits.{stride_max};
-ghost use Rattle.paint.specs.Paint.{store_block, sample_in_block};
-ghost use Rattle.paint.specs.Samples.{flat_sample};
+ghost use Rattle.std.specs.Prelude.{◌≡◌, length};
+ghost use Rattle.sample.specs.Depth.{is_ten};
+ghost use Rattle.paint.specs.Paint.{Corner, Stored, store_block};
+ghost use Rattle.paint.specs.Samples.{flat_sample_of};
 
 use crate::flat_sample::flat;
-use crate::row::{put8, put16};
+use crate::row::put;
+use sample::Sample;
 
 // Stores the 8 by 8 samples of a block into the rows from its corner on.
-pub fn store8(rows: &mut [u8], stride: usize, p: &[u8; 64])
-    requires { (8 ≤ stride) × (stride ≤ stride_max) × (7 * stride + 8 ≤ length rows.old) }
-    ensures { rows.new ≡ store_block stride (sample_in_block p.now) rows.old }
+pub fn store<T: Copy>(rows: &mut [T], stride: usize, p: &[T; 64])
+    requires { Corner stride (length rows.old) }
+    ensures { Stored stride p.now rows.old rows.new }
 {
     for i in 0..8 {
-        put8(rows, i * stride, p, i * 8);
-    }
-}
-
-// The same at 16 bits.
-pub fn store16(rows: &mut [u16], stride: usize, p: &[u16; 64])
-    requires { (8 ≤ stride) × (stride ≤ stride_max) × (7 * stride + 8 ≤ length rows.old) }
-    ensures { rows.new ≡ store_block stride (sample_in_block p.now) rows.old }
-{
-    for i in 0..8 {
-        put16(rows, i * stride, p, i * 8);
+        put(rows, i * stride, p, i * 8);
     }
 }
 
 // Fills the 8 by 8 samples at the corner with the block's DC.
-pub fn broadcast_dc8(rows: &mut [u8], stride: usize, dc: i16, level: i16)
-    requires { (8 ≤ stride) × (stride ≤ stride_max) × (7 * stride + 8 ≤ length rows.old) }
-    ensures { rows.new ≡ store_block stride (λ i. flat_sample level dc) rows.old }
+pub fn broadcast_dc<S: Sample>(rows: &mut [S], stride: usize, dc: i16, level: i16)
+    requires { Corner stride (length rows.old) }
+    ensures { S.samples rows.new ≡ store_block stride (λ i. flat_sample_of (is_ten S.depth) level dc) (S.samples rows.old) }
 {
-    let v = flat(dc, level);
+    let v = flat::<S>(dc, level);
     let p = [v; 64];
-    store8(rows, stride, &p);
+    store(rows, stride, &p);
 }

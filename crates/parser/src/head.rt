@@ -2,16 +2,19 @@
 //
 // It is a format byte, the quality and the slice count modulo 256; a format byte of 3 is followed by the DC shift and a
 // second format byte.
-ghost use Rattle.std.specs.Prelude.{◌≡◌, ◌≤◌, length};
+//
+// That five bytes are there stands in each contract, and in no type: `format_at` and `header_of` may be called for any height.
+ghost use Rattle.std.specs.Prelude.{◌≡◌, ◌≤◌, length, IfOk};
 ghost use Rattle.ask.specs.Ask.{first_no};
-ghost use Rattle.ask.specs.Limits.{height_max};
-ghost use Rattle.parser.specs.head.Header.{format_at, format_ok, shift_in, is_interlaced, slice_count_ok, byte_questions, header_questions, frame_read};
+ghost use Rattle.ask.specs.Refusals.{given};
+ghost use Rattle.parser.specs.head.Header.{format_at, format_ok, shift_in, is_interlaced, slice_count_ok, header_questions, frame_read};
 ghost use Rattle.parser.specs.head.Views.{header_says};
 
-use ask::numbers::{NO_BYTES, NO_COUNT, NO_FORMAT, NO_SHIFT, NO_SIZE};
+use ask::{Refusal, ask};
+use layout::FrameSize;
 
 // What is read of a frame's header, and whether AC streams follow.
-#[derive(Clone, Copy)]
+#[derive(Clone, Copy, Debug, PartialEq, Eq, Hash)]
 pub struct Header {
     pub interlaced: bool,
     pub quality: u8,
@@ -32,19 +35,15 @@ fn is_interlaced(f: &[u8], height: usize) -> bool
     requires { 5 ≤ length f.now }
     ensures { result ≡ is_interlaced height f.now }
 {
-    if f[format_at(f)] == 1 {
-        false
-    } else {
-        layout::interlace_capable(height)
-    }
+    f[format_at(f)] != 1 && layout::interlace_capable(height)
 }
 
 // Whether the slice count in the header is the layout's, modulo 256.
-fn slice_count_ok(height: usize, f: &[u8]) -> bool
-    requires { (5 ≤ length f.now) × (height ≤ height_max) }
-    ensures { result ≡ slice_count_ok height f.now }
+fn slice_count_ok(size: FrameSize, f: &[u8]) -> bool
+    requires { 5 ≤ length f.now }
+    ensures { result ≡ slice_count_ok size.height f.now }
 {
-    crate::streams::wide(f[format_at(f) + 2]) == layout::slice_count(height) % 256
+    usize::from(f[format_at(f) + 2]) == layout::slice_count(size.height) % 256
 }
 
 // The DC shift that the header names, 0 where it names none.
@@ -60,35 +59,22 @@ fn format_ok(f: &[u8]) -> bool
     requires { 5 ≤ length f.now }
     ensures { result ≡ format_ok f.now }
 {
-    let first = f[0];
-    ask::both(1 <= first, first <= 3)
+    1 <= f[0] && f[0] <= 3
 }
 
-// The first "no" among the questions about the header's bytes, 0 where there is none.
-fn byte_number(height: usize, f: &[u8]) -> u32
-    requires { (5 ≤ length f.now) × (height ≤ height_max) }
-    ensures { result ≡ first_no (byte_questions height f.now) }
+// The questions about the header; the frame's size. The bytes are asked about only where the size is legal and five bytes are
+// there.
+#[tactic(auto, unfolding(crate::specs::head::Header::header_questions, ask::specs::Ask::first_no))]
+pub fn header_asked(width: usize, height: usize, f: &[u8]) -> Result<FrameSize, Refusal>
+    ensures asked { given result ≡ first_no (header_questions width height f.now) }
+    ensures legal { IfOk result (λ size. (size.width ≡ width) × (size.height ≡ height) × (5 ≤ length f.now)) }
 {
-    let format = format_ok(f);
-    let shift = ask::shift_ok(shift_in(f) as u32);
-    let count = slice_count_ok(height, f);
-    let from_count = ask::or_else(count, NO_COUNT, 0);
-    let from_shift = ask::or_else(shift, NO_SHIFT, from_count);
-    ask::or_else(format, NO_FORMAT, from_shift)
-}
-
-// The first "no" among the questions about the header, 0 where there is none. The bytes are asked about only where the size
-// is legal and five bytes are there.
-pub fn header_number(width: usize, height: usize, f: &[u8]) -> u32
-    ensures { result ≡ first_no (header_questions width height f.now) }
-{
-    let size = layout::size_ok(width, height);
-    let five = 5 <= f.len();
-    if ask::both(size, five) {
-        return byte_number(height, f);
-    }
-    let from_bytes = ask::or_else(five, NO_BYTES, 0);
-    ask::or_else(size, NO_SIZE, from_bytes)
+    let size = FrameSize::new(width, height)?;
+    ask(5 <= f.len(), Refusal::Bytes)?;
+    ask(format_ok(f), Refusal::Format)?;
+    ask(ask::shift_ok(u32::from(shift_in(f))), Refusal::Shift)?;
+    ask(slice_count_ok(size, f), Refusal::Count)?;
+    Ok(size)
 }
 
 // What the header says.

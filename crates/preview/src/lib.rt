@@ -6,25 +6,33 @@ pub mod report;
 pub mod row;
 
 ghost use Rattle.std.specs.Prelude.{◌≡◌};
+ghost use Rattle.ask.specs.Refusals.{given};
 ghost use Rattle.calls.specs.Previews.{preview};
 ghost use Rattle.preview.specs.Answer.{PreviewNumber, preview_says, preview_told};
 
-use acread::through::PlaneEnd;
-use ask::numbers::{NO_CODE, NO_PLANE, NO_ROWS, NO_SHIFT, NO_START, NO_STRIDE};
+use ask::{Refusal, ask};
 use calls::{Shape, Stream};
 
-// The first "no" among the questions, 0 where there is none; the two outputs have room for so many bytes.
-fn preview_number(shift: u32, h: Shape, upper: usize, lower: usize, dc: Stream) -> u32
-    ensures { PreviewNumber shift h upper lower dc result }
+// The questions; the two outputs have room for so many bytes.
+#[tactic(auto, unfolding(ask::specs::Ask::first_no, calls::specs::Questions::preview_questions))]
+fn preview_asked(
+    shift: u32,
+    h: Shape,
+    upper: usize,
+    lower: usize,
+    dc: Stream,
+) -> Result<(), Refusal>
+    ensures { PreviewNumber shift h upper lower dc (given result) }
 {
     let columns = h.stride / 8;
-    let rows = ask::both(columns <= upper, columns <= lower);
-    let starts = ask::both(ask::start_ok(dc.at), ask::dc_read_ok(dc.len));
-    let from_7 = ask::or_else(starts, NO_START, 0);
-    let from_5 = ask::or_else(rows, NO_ROWS, from_7);
-    let from_4 = ask::or_else(ask::stride_ok(h.stride), NO_STRIDE, from_5);
-    let from_3 = ask::or_else(ask::place_ok(h.place), NO_PLANE, from_4);
-    ask::or_else(ask::shift_ok(shift), NO_SHIFT, from_3)
+    ask(ask::shift_ok(shift), Refusal::Shift)?;
+    ask(ask::place_ok(h.place), Refusal::Plane)?;
+    ask(ask::stride_ok(h.stride), Refusal::Stride)?;
+    ask(columns <= upper && columns <= lower, Refusal::Rows)?;
+    ask(
+        ask::start_ok(dc.at) && ask::dc_read_ok(dc.len),
+        Refusal::Start,
+    )
 }
 
 // One byte a block, two output rows; and the byte where the plane's DC stream ends.
@@ -35,19 +43,12 @@ pub fn preview(
     lower: &mut [u8],
     dc: &[u8],
     at: usize,
-) -> PlaneEnd
+) -> Result<usize, Refusal>
     ensures { preview_says at result upper.new lower.new
         ≡ preview_told (preview shift h.place h.stride upper.old lower.old dc.now at) }
 {
-    let stream = Stream { len: dc.len(), at };
-    let x = preview_number(shift, h, upper.len(), lower.len(), stream);
-    if 0 < x {
-        return PlaneEnd::Refused(x);
-    }
+    preview_asked(shift, h, upper.len(), lower.len(), Stream::of(dc, at))?;
     let columns = h.stride / 8;
-    if acread::through::dc_good(dc, at, columns) {
-        let end = crate::row::store_preview(shift, h.place, columns, upper, lower, dc, at);
-        return PlaneEnd::At(end);
-    }
-    PlaneEnd::Refused(NO_CODE)
+    ask(acread::through::dc_good(dc, at, columns), Refusal::Code)?;
+    Ok(crate::row::store_preview(shift, h.place, columns, upper, lower, dc, at))
 }

@@ -2,6 +2,7 @@
 // The stream is judged before a byte is stored.
 ghost use Rattle.std.specs.Prelude.{◌≡◌, true, List, ℕ, ◌*◌, ◌^◌, ◌≤◌, ◌<◌, length};
 ghost use Rattle.ask.specs.Ask.{accepted};
+ghost use Rattle.ask.specs.Refusals.{given};
 ghost use Rattle.ask.specs.Limits.{start_max};
 ghost use Rattle.bits.specs.Bits.{bit_at};
 ghost use Rattle.bits.specs.Lay.{lay};
@@ -12,9 +13,7 @@ ghost use Rattle.acread.specs.through.Through.{block_ends, good_ends, reports_of
 ghost use Rattle.preview.specs.report.Report.{ReportNumber, report_says, report_told};
 
 use acpairs::{DENSE, LOOK, NEVER};
-use acread::BlockEnd;
-use acread::through::PlaneEnd;
-use ask::numbers::{NO_CODE, NO_ROWS, NO_START, NO_STRIDE};
+use ask::{Refusal, ask};
 use calls::Stream;
 
 // From how many bits on a word is looked up in the table, after a block that went from the bit p to q.
@@ -36,22 +35,18 @@ fn store_blocks(ac: &[u8], at: usize, n: usize, first: u32, tab: &[u32], report:
     let mut c = bitreader::cursor(ac, 8 * at);
     let mut pending: u64 = 0;
     let mut least = first;
-    let mut i = 0;
-    while i < n {
+    for i in 0..n {
         report[i] = acread::flat(pending);
         if pending < 64 {
-            match acread::skip_block(ac, c, pending, least, tab) {
-                BlockEnd::At(d, m) => {
-                    least = least_after(c.pos, d.pos, first);
-                    c = d;
-                    pending = m;
-                }
-                BlockEnd::Bad => return 0,
-            }
+            let Some(end) = acread::skip_block(ac, c, pending, least, tab) else {
+                return 0;
+            };
+            least = least_after(c.pos, end.c.pos, first);
+            c = end.c;
+            pending = end.pending;
         } else {
             pending -= 64;
         }
-        i += 1;
     }
     bitreader::end_byte(c)
 }
@@ -74,29 +69,30 @@ fn store_report(ac: &[u8], at: usize, n: usize, report: &mut [u8]) -> usize
     store_blocks(ac, at, n, LOOK, &tab, report)
 }
 
-// The first "no" among the questions, 0 where there is none; the report has room for so many bytes.
-fn report_number(stride: usize, room: usize, ac: Stream) -> u32
-    ensures { ReportNumber stride room ac result }
+// The questions; the report has room for so many bytes.
+#[tactic(auto, unfolding(ask::specs::Ask::first_no, calls::specs::Questions::report_questions))]
+fn report_asked(stride: usize, room: usize, ac: Stream) -> Result<(), Refusal>
+    ensures { ReportNumber stride room ac (given result) }
 {
-    let starts = ask::both(ask::start_ok(ac.at), ask::ac_read_ok(ac.len));
-    let from_7 = ask::or_else(starts, NO_START, 0);
-    let from_5 = ask::or_else(stride / 4 <= room, NO_ROWS, from_7);
-    ask::or_else(ask::stride_ok(stride), NO_STRIDE, from_5)
+    ask(ask::stride_ok(stride), Refusal::Stride)?;
+    ask(stride / 4 <= room, Refusal::Rows)?;
+    ask(
+        ask::start_ok(ac.at) && ask::ac_read_ok(ac.len),
+        Refusal::Start,
+    )
 }
 
 // One byte a block in coding order: 1 where no AC symbol is read for it; and the byte where the plane's AC stream ends.
-pub fn block_report(stride: usize, report: &mut [u8], ac: &[u8], at: usize) -> PlaneEnd
+pub fn block_report(
+    stride: usize,
+    report: &mut [u8],
+    ac: &[u8],
+    at: usize,
+) -> Result<usize, Refusal>
     ensures { report_says at result report.new ≡ report_told (block_report stride report.old ac.now at) }
 {
-    let stream = Stream { len: ac.len(), at };
-    let x = report_number(stride, report.len(), stream);
-    if 0 < x {
-        return PlaneEnd::Refused(x);
-    }
+    report_asked(stride, report.len(), Stream::of(ac, at))?;
     let columns = stride / 8;
-    if acread::through::ac_good(ac, at, columns) {
-        let end = store_report(ac, at, 2 * columns, report);
-        return PlaneEnd::At(end);
-    }
-    PlaneEnd::Refused(NO_CODE)
+    ask(acread::through::ac_good(ac, at, columns), Refusal::Code)?;
+    Ok(store_report(ac, at, 2 * columns, report))
 }

@@ -31,13 +31,11 @@ fn preview_row(
 {
     let mut c = c0;
     let mut last = prior;
-    let mut k = 0;
-    while k < columns {
+    for k in 0..columns {
         let g = bitreader::next_dc(dc, c);
         last = blockread::dc::settled(g.run, g.num, shift, 0, last);
         out[k] = blockread::dc::preview_byte(last, level);
         c = g.c;
-        k += 1;
     }
     RowEnd { c, last }
 }
@@ -58,7 +56,7 @@ pub fn store_preview(
         (read_steps (2 * columns) (bit_at dc.now) (8 * at)) result }
 {
     let c = bitreader::cursor(dc, 8 * at);
-    let level = planes::lane8(place);
+    let level = planes::lane::<u8>(place);
     let row = preview_row(dc, c, shift, level, 0, columns, upper);
     let d = row.c;
     let last = row.last;

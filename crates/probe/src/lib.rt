@@ -4,6 +4,8 @@
 
 mod arrays;
 pub mod blocks;
+pub mod codes;
+mod corners;
 pub mod of_bitacc;
 pub mod of_bitreader;
 pub mod of_dct;

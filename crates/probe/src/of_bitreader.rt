@@ -4,6 +4,9 @@ ghost use Rattle.std.specs.Prelude.{◌^◌, ◌<◌};
 
 use bitreader::{AcCursor, Got};
 
+// The last bit at which a code is read.
+const FARTHEST: usize = 1000000000000;
+
 // The code at a cursor: of the DC stream, or a symbol of the AC stream.
 fn code(s: &[u8], c: AcCursor, dc: bool) -> Got
     requires { At s.now c × (c.pos < 2 ^ 60) }
@@ -19,26 +22,22 @@ fn code(s: &[u8], c: AcCursor, dc: bool) -> Got
 // The codes of a stream from the bit `at` on, up to the first bad one or as many as there is room for: of each the head
 // bit, the number (0: bad) and the bit after it. How many numbers were stored.
 pub fn probe_bitreader_read(s: &[u8], at: usize, dc: bool, out: &mut [u64]) -> usize {
-    if 1000000000000 < at {
+    if FARTHEST < at {
         return 0;
     }
-    let mut c = bitreader::cursor(s, at);
-    let mut k = 0;
-    while 3 <= out.len() - k {
-        let p = c.pos;
-        if 1000000000000 < p {
-            return k;
+    let mut cursor = bitreader::cursor(s, at);
+    let mut stored = 0;
+    for three in out.chunks_exact_mut(3) {
+        if FARTHEST < cursor.pos {
+            break;
         }
-        let g = code(s, c, dc);
-        let d = g.c;
-        out[k] = g.run;
-        out[k + 1] = g.num;
-        out[k + 2] = d.pos as u64;
-        k += 3;
-        if g.num == 0 {
-            return k;
+        let got = code(s, cursor, dc);
+        three.copy_from_slice(&[got.run, got.num, got.c.pos as u64]);
+        stored += 3;
+        if got.num == 0 {
+            break;
         }
-        c = d;
+        cursor = got.c;
     }
-    k
+    stored
 }

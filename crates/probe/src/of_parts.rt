@@ -1,23 +1,21 @@
 // Parts of lent memory that inner functions hand back, copied out: a stream of a frame (crate parser), a slice's rows (crate shown).
+use crate::arrays::put;
+use ask::Refusal;
 use layout::Kind;
 
-// Copies a part to the buffer's start, where there is room for all of it. Its length.
-fn copied(part: &[u8], out: &mut [u8]) -> usize {
-    if part.len() <= out.len() {
-        for k in 0..part.len() {
-            out[k] = part[k];
+// Copies a part to the buffer's start, where there is room for all of it. Its length, and the number of the answer.
+fn copied<T: Copy>(answer: Result<&[T], Refusal>, number: &mut u32, out: &mut [T]) -> usize {
+    match answer {
+        Ok(part) => {
+            *number = 0;
+            put(out, part);
+            part.len()
+        }
+        Err(no) => {
+            *number = no.number();
+            0
         }
     }
-    part.len()
-}
-
-fn copied16(part: &[u16], out: &mut [u16]) -> usize {
-    if part.len() <= out.len() {
-        for k in 0..part.len() {
-            out[k] = part[k];
-        }
-    }
-    part.len()
 }
 
 // The DC or the AC stream of a slice, and the number of the answer.
@@ -31,34 +29,26 @@ pub fn probe_parts_stream(
     out: &mut [u8],
 ) -> usize {
     let kind = if ac { Kind::Ac } else { Kind::Dc };
-    let part = parser::stream(width, height, frame, kind, slice, number);
-    copied(part, out)
+    copied(
+        parser::stream(width, height, frame, kind, slice),
+        number,
+        out,
+    )
 }
 
-// A slice's shown rows of 8-bit samples, and the number of the answer.
-pub fn probe_parts_rows8<'a>(
-    new: &'a [u8],
-    held: &'a [u8],
+// A slice's shown rows, and the number of the answer.
+pub fn probe_parts_rows<'a, T: Copy>(
+    new: &'a [T],
+    held: &'a [T],
     stride: usize,
     slice: usize,
     verdict: u32,
     number: &mut u32,
-    out: &mut [u8],
+    out: &mut [T],
 ) -> usize {
-    let part = shown::eight::shown_rows(new, held, stride, slice, verdict, number);
-    copied(part, out)
-}
-
-// The same of 10-bit samples.
-pub fn probe_parts_rows10<'a>(
-    new: &'a [u16],
-    held: &'a [u16],
-    stride: usize,
-    slice: usize,
-    verdict: u32,
-    number: &mut u32,
-    out: &mut [u16],
-) -> usize {
-    let part = shown::ten::shown_rows(new, held, stride, slice, verdict, number);
-    copied16(part, out)
+    copied(
+        shown::shown_rows(new, held, stride, slice, verdict),
+        number,
+        out,
+    )
 }

@@ -1,5 +1,5 @@
 // The shuffles (crate shuffles).
-use crate::arrays::{block, put_row, put_wide, row, wide};
+use crate::arrays::{array, put};
 
 // The shuffles of a row, numbered as the oracle numbers them.
 fn shuffled(op: u32, a: [i16; 8], imm: u8) -> [i16; 8] {
@@ -12,26 +12,18 @@ fn shuffled(op: u32, a: [i16; 8], imm: u8) -> [i16; 8] {
 
 // A row shuffled by a pattern.
 pub fn probe_shuffles_row(op: u32, a: &[i16], imm: u8, out: &mut [i16]) {
-    let x = row(a);
-    let r = shuffled(op, x, imm);
-    put_row(out, r);
+    put(out, &shuffled(op, array(a), imm));
 }
 
 // A wide row shuffled by a pattern.
 pub fn probe_shuffles_wide(a: &[i32], imm: u8, out: &mut [i32]) {
-    let x = wide(a);
-    let r = shuffles::shuffle32(x, imm);
-    put_wide(out, r);
+    put(out, &shuffles::shuffle32(array(a), imm));
 }
 
 pub fn probe_shuffles_unpacklo32(a: &[i16], b: &[i16], out: &mut [i16]) {
-    let x = row(a);
-    let y = row(b);
-    let r = shuffles::unpacklo32(x, y);
-    put_row(out, r);
+    put(out, &shuffles::unpacklo32(array(a), array(b)));
 }
 
 pub fn probe_shuffles_nonzero_mask(zz: &[i16]) -> u64 {
-    let z = block(zz);
-    shuffles::nonzero_mask(z)
+    shuffles::nonzero_mask(array(zz))
 }

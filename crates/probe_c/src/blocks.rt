@@ -9,7 +9,7 @@ pub extern "C" fn probe_blocks_forward8(
     preset: usize,
     out: &mut [i16],
 ) {
-    probe::blocks::probe_blocks_forward8(rows, stride, preset, out);
+    probe::blocks::probe_blocks_forward::<u8>(rows, stride, preset, out);
 }
 
 // The same of 10-bit blocks.
@@ -20,7 +20,7 @@ pub extern "C" fn probe_blocks_forward16(
     preset: usize,
     out: &mut [i16],
 ) {
-    probe::blocks::probe_blocks_forward16(rows, stride, preset, out);
+    probe::blocks::probe_blocks_forward::<u16>(rows, stride, preset, out);
 }
 
 // Dequantising, inverse transform and store of one block of coefficients over a row of 8-bit blocks.
@@ -31,7 +31,7 @@ pub extern "C" fn probe_blocks_inverse8(
     rows: &mut [u8],
     stride: usize,
 ) {
-    probe::blocks::probe_blocks_inverse8(nat, preset, rows, stride);
+    probe::blocks::probe_blocks_inverse::<u8>(nat, preset, rows, stride);
 }
 
 // The same for 10-bit samples.
@@ -42,5 +42,5 @@ pub extern "C" fn probe_blocks_inverse16(
     rows: &mut [u16],
     stride: usize,
 ) {
-    probe::blocks::probe_blocks_inverse16(nat, preset, rows, stride);
+    probe::blocks::probe_blocks_inverse::<u16>(nat, preset, rows, stride);
 }

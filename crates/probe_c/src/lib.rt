@@ -1,4 +1,4 @@
-// The calls of the crate probe for the oracle: each export calls the function of its name.
+// The calls of the crate probe for the oracle: each export calls the function of its name, at its kind of samples.
 #![tactic(auto)]
 
 pub mod blocks;

@@ -21,7 +21,7 @@ pub extern "C" fn probe_dct_inverse8(
     rows: &mut [u8],
     stride: usize,
 ) {
-    probe::of_dct::probe_dct_inverse8(nat, preset, level, rows, stride);
+    probe::of_dct::probe_dct_inverse::<u8>(nat, preset, level, rows, stride);
 }
 
 // The same for 10-bit samples (idct16).
@@ -33,7 +33,7 @@ pub extern "C" fn probe_dct_inverse16(
     rows: &mut [u16],
     stride: usize,
 ) {
-    probe::of_dct::probe_dct_inverse16(nat, preset, level, rows, stride);
+    probe::of_dct::probe_dct_inverse::<u16>(nat, preset, level, rows, stride);
 }
 
 // A flat block from the corner of the rows on (broadcast_dc8).

@@ -25,7 +25,7 @@ pub extern "C" fn probe_parts_rows8<'a>(
     number: &mut u32,
     out: &mut [u8],
 ) -> usize {
-    probe::of_parts::probe_parts_rows8(new, held, stride, slice, verdict, number, out)
+    probe::of_parts::probe_parts_rows(new, held, stride, slice, verdict, number, out)
 }
 
 // The same of 10-bit samples.
@@ -39,5 +39,5 @@ pub extern "C" fn probe_parts_rows10<'a>(
     number: &mut u32,
     out: &mut [u16],
 ) -> usize {
-    probe::of_parts::probe_parts_rows10(new, held, stride, slice, verdict, number, out)
+    probe::of_parts::probe_parts_rows(new, held, stride, slice, verdict, number, out)
 }

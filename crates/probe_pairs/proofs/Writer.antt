@@ -1,15 +1,14 @@
 -- What the bit writer asks, where 63 bits fit. Assumes nothing.
-use mathlib.Core.Path.{◌≡◌}
 use mathlib.Core.Bool.{Bool}
 use mathlib.Core.List.{List, ◌++◌}
 use Prim.Native.Nat.{ℕ, ◌+◌, ◌-◌, ◌*◌, ◌/◌, ◌^◌, ◌≤◌, ◌<◌}
 use native.Mathlib.Omega.{arith}
 use lib.ListN.{length, length-append}
-use Rattle.bits.specs.Bits.{bits_of, bit_length, value_code, run_code}
+use Rattle.bits.specs.Bits.{bits_of, value_code, run_code}
 use Rattle.bits.proofs.Leading.{length_le}
 use Rattle.bits.proofs.Codes.{length_bits_of}
 use Rattle.bits.proofs.CodeWord.{value_length_lem, run_length_lem}
-use Rattle.bitwriter.specs.Put.{Put, Room, LastRoom}
+use Rattle.bitwriter.specs.Put.{Put, Room}
 use Rattle.bitwriter.specs.declared.BitAcc.{BitAcc}
 use Rattle.bitwriter.proofs.Writer.{wrote_count}
 use Rattle.probe_pairs.specs.Kept.{Going, Fits, Grown}
@@ -23,9 +22,6 @@ grown_of a r bs h w = omega (arith, wrote_count w, length-append (bits_of a.nbit
 -- eight bytes a pair are enough: b bits are written after i pairs of n, from the byte at on
 pub pair_fits : (at n i b L : ℕ) → at ≤ L → n ≤ (L - at) / 8 → i < n → b ≤ 8 * at + 63 * i → b + 63 ≤ 8 * L
 pair_fits at n i b L h m l e = omega arith
-
-pub end_fits : (at n i L : ℕ) (a : BitAcc) (o : List ℕ) → at ≤ L → n ≤ (L - at) / 8 → i ≤ n → 8 * a.pos + a.nbits ≤ 8 * at + 63 * i → Going a → L ≡ length o → LastRoom a o
-end_fits at n i L a o h m l e g k = record { few = g.0; low = g.1; room = omega arith }
 
 pub value_long : (c : ℕ) → 0 < c → c < 2 ^ 32 → length (value_code c) ≤ 63
 value_long c p h = omega (arith, value_length_lem c p (omega (arith, h)), length_le 32 c h)

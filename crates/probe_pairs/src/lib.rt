@@ -10,42 +10,26 @@ use bitwriter::BitAcc;
 pub fn taken(n: u32, c: u32) -> bool
     ensures { result ≡ true → (n < 2 ^ 17) × (0 < c) × (c < 2 ^ 15) }
 {
-    if c == 0 {
-        return false;
-    }
-    if 32767 < c {
-        return false;
-    }
-    n < 131072
+    n < 131072 && 0 < c && c < 32768
 }
 
 // Pairs from the byte `at` on, then zero bits up to a byte. Room is asked for once, eight bytes a pair. The end, or 0
 // where there is less, or at a pair that the writer does not take.
 pub fn probe_pairs_write(runs: &[u32], codes: &[u32], at: usize, out: &mut [u8]) -> usize {
-    if codes.len() < runs.len() {
+    if codes.len() < runs.len() || out.len() < at || (out.len() - at) / 8 < runs.len() {
         return 0;
     }
-    if out.len() < at {
-        return 0;
-    }
-    if (out.len() - at) / 8 < runs.len() {
-        return 0;
-    }
-    let mut a = BitAcc {
+    let mut acc = BitAcc {
         acc: 0,
         nbits: 0,
         pos: at,
     };
-    let mut i = 0;
-    while i < runs.len() {
-        let n = runs[i];
-        let c = codes[i];
-        if !taken(n, c) {
+    for (i, run) in runs.iter().enumerate() {
+        let code = codes[i];
+        if !taken(*run, code) {
             return 0;
         }
-        a = bitwriter::put_run_value(a, n, c, out);
-        i += 1;
+        acc = bitwriter::put_run_value(acc, *run, code, out);
     }
-    let r = bitwriter::align(a, out);
-    r.pos
+    bitwriter::align(acc, out).pos
 }

@@ -2,10 +2,9 @@
 use mathlib.Core.Path.{◌≡◌, sym, ap, ◌∙◌}
 use mathlib.Core.List.{List}
 use Prim.Native.Nat.{ℕ, ◌<◌}
-use native.Mathlib.Omega.{arith}
 use lib.Dec.{lit<}
 use lib.IntN.{ℤ, pos}
-use lib.ListN.{length, get_or}
+use lib.ListN.{length}
 use Rattle.scalar.proofs.Fill.{length_tab, get_d_tab, tab_ext, list_tab}
 use Rattle.tables.specs.Divisor.{divisor, divisors_of}
 use Rattle.tables.specs.Zigzag.{zigzag_at, unzigzag_at}

@@ -9,6 +9,8 @@ use lib.IntN.{ℤ, pos, nat_abs}
 use lib.ListN.{get_or}
 use mir.Syntax.{w16}
 use mir.Val.{Val, SFits}
+use Rattle.std.proofs.Math.Logic.{∥∥₁_elim}
+use Rattle.std.proofs.Props.{props}
 use denote.Array.{each}
 use denote.Shadow.{shadow}
 use denote.Signed.{SInt}
@@ -50,11 +52,13 @@ module _ (k : List ℕ) (w : List ℤ) where
       rw (number_at k (8 * r) i (8 * r + i) h refl, number_at k (64 + 8 * r) i (64 + (8 * r + i)) h (omega arith), number_at k (128 + 8 * r) i (128 + (8 * r + i)) h (omega arith)) refl
 
   module _ (fits : (i : ℕ) → SFits w16 (coefficient w i)) where
-    pub row_fits : Encodes k → (r : ℕ) {x : List ℤ} {c m s : List ℕ} → r < 8 → x ≡ row_of w r → c ≡ numbers_of k (8 * r) → m ≡ numbers_of k (64 + 8 * r) → s ≡ numbers_of k (128 + 8 * r)
+    pub row_fits : ∥ Encodes k ∥₁ → (r : ℕ) {x : List ℤ} {c m s : List ℕ} → r < 8 → x ≡ row_of w r → c ≡ numbers_of k (8 * r) → m ≡ numbers_of k (64 + 8 * r) → s ≡ numbers_of k (128 + 8 * r)
         → RowFits c m s x
     row_fits e r hr ex ec em es i hi =
-        let n = entry_needs e.preset (8 * r + i) k (coefficient w (8 * r + i)) e.preset_lt (omega arith) e.numbers (fits (8 * r + i)) in
-        rw (ex, ec, em, es, row_at_lem w r i hi, magnitude_at r i (coefficient w (8 * r + i)) hi, number_at k (8 * r) i (8 * r + i) hi refl) n
+        ∥∥₁_elim e (hlevel props)
+        (λ n.
+        rw (ex, ec, em, es, row_at_lem w r i hi, magnitude_at r i (coefficient w (8 * r + i)) hi, number_at k (8 * r) i (8 * r + i) hi refl)
+        (entry_needs n.preset (8 * r + i) k (coefficient w (8 * r + i)) n.preset_lt (omega arith) n.numbers (fits (8 * r + i))))
 
     pub block_law : (preset : ℕ) → preset < 25 → k ≡ encode_of preset → block_of row_at ≡ quantise_of preset w
     unfolding multiplied_row quantise_of

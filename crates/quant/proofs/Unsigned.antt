@@ -6,7 +6,6 @@ use native.Mathlib.Nat.{mul-add}
 use native.Mathlib.Omega.{arith}
 use lib.Dec.{ltb}
 use lib.IntN.{ℤ, pos, negsuc, neg_ℤ, ◌*ℤ◌}
-use borrow.Author.Tests.{ltb-true, ltb-false}
 use mir.Syntax.{w16}
 use mir.Val.{to_z, sel}
 use Rattle.scalar.specs.Scalar.{mod_z, wrap16, mullo_of}

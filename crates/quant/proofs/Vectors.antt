@@ -1,7 +1,7 @@
 -- The worked example of document 01, 'Lanes and the block', and two of the signs.
 use mathlib.Core.Path.{◌≡◌, refl}
-use mathlib.Core.Bool.{true, false}
-use lib.IntN.{ℤ, pos, negsuc}
+use mathlib.Core.Bool.{false}
+use lib.IntN.{pos, negsuc}
 use Rattle.scalar.specs.Scalar.{mullo_of, sra_of, wrap16}
 use Rattle.tables.specs.Divisor.{divisor}
 use Rattle.quant.specs.Quantise.{rounded_division, with_sign, dequantised, dequant_shift}

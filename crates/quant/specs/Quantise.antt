@@ -1,7 +1,8 @@
 -- The quantiser as rounded division with the sign, the scan, and dequantising. A block is a list of 64 numbers.
-use Rattle.std.specs.Prelude.{Bool, true, false, List, ℕ, ℤ, pos, nat_abs, get_or}
+use Rattle.std.specs.Prelude.{Bool, List, ℕ, ℤ, pos, nat_abs, get_or}
 use Rattle.scalar.specs.Scalar.{mullo_of, sra_of}
 use Rattle.scalar.specs.Tab.{tab}
+pub use Rattle.sample.specs.Numbers.{dequant_shift}
 use Rattle.tables.specs.Divisor.{divisor}
 use Rattle.tables.specs.Reciprocal.{rounded}
 use Rattle.tables.specs.Zigzag.{unzigzag_at}
@@ -32,11 +33,6 @@ dequantise_with shift d l = tab 64 (λ i. dequantised shift (get_or d i 0) (coef
 -- the same by a preset's divisors
 unfoldable pub dequantise_by : ℕ → ℕ → List ℤ → List ℤ
 dequantise_by shift preset l = tab 64 (λ i. dequantised shift (divisor preset i) (coefficient l i))
-
--- "shifts right by 4 (8-bit) or 2 (10-bit)"
-abbrev pub dequant_shift : Bool → ℕ
-dequant_shift true = 2
-dequant_shift false = 4
 
 -- the dequantised block of a depth (true: 10-bit)
 abbrev pub dequantise_of : Bool → ℕ → List ℤ → List ℤ

@@ -3,6 +3,8 @@ ghost use Rattle.std.specs.Prelude.{◌≡◌, ◌<◌, ◌≤◌};
 ghost use Rattle.std.proofs.lemmas.List.Edits.{sets};
 ghost use Rattle.quant.specs.scan.Scan.{four_of, scan_of};
 
+use sample::Sample;
+
 // Four moves: the elements of n at i0 to i3 go to z from `at` on.
 pub fn four(z: &mut [i16; 64], at: usize, n: &[i16; 64], i0: usize, i1: usize, i2: usize, i3: usize)
     requires { (at ≤ 60) × ((i0 < 64) × ((i1 < 64) × ((i2 < 64) × (i3 < 64)))) }
@@ -14,8 +16,8 @@ pub fn four(z: &mut [i16; 64], at: usize, n: &[i16; 64], i0: usize, i1: usize, i
     z[at + 3] = n[i3];
 }
 
-// The block in scan order.
-pub fn zigzag(n: [i16; 64]) -> [i16; 64]
+// The block in scan order. Each depth has its own: so the compiler makes it part of the plane's loop.
+pub fn zigzag<S: Sample>(n: [i16; 64]) -> [i16; 64]
     ensures { result ≡ scan_of n }
 {
     let mut z = [0i16; 64];

@@ -1,3 +1,4 @@
 pub mod Code
 pub mod Read
 pub mod Size
+pub mod Refusing

@@ -1,29 +1,28 @@
-// What the calls on planes and slices answer: the number of the first "no", or where the streams end.
+// What the calls on planes and slices answer: what they are refused with, or where the streams end.
+ghost use Rattle.std.specs.Prelude.{◌≡◌};
+ghost use Rattle.ask.specs.Refusals.{given};
+ghost use Rattle.questions.specs.answers.Refusing.{given_at, start_in};
+
+use ask::Refusal;
 use calls::Positions;
 
-// Of a coding call.
+// Of a call that was refused: the first "no", and the positions of both streams as they were given.
 #[derive(Clone, Copy)]
-pub enum CodeAnswer {
-    // The number of the first "no", and the positions of both streams as they were given.
-    Refused(u32, Positions),
-    // Where the two streams end.
-    Accepted(Positions),
+pub struct Refused {
+    pub no: Refusal,
+    pub start: Positions,
 }
 
-// Of a reading call.
+// A length for each of the two streams.
 #[derive(Clone, Copy)]
-pub enum ReadAnswer {
-    // The number of the first "no", 8 for a bad code, and the positions of both streams as they were given.
-    Refused(u32, Positions),
-    // Where the planes' two streams end.
-    Accepted(Positions),
+pub struct Lengths {
+    pub dc: usize,
+    pub ac: usize,
 }
 
-// Of a size call.
-#[derive(Clone, Copy)]
-pub enum SizeAnswer {
-    // The number of the first "no".
-    Refused(u32),
-    // The lengths of DC and AC.
-    Sized(usize, usize),
+// What a call's questions gave, with the positions that it hands back where it is refused.
+pub fn refused_at(asked: Result<(), Refusal>, start: Positions) -> Result<(), Refused>
+    ensures { (given_at result ≡ given asked) × (start_in start result ≡ start) }
+{
+    asked.map_err(|no| Refused { no, start })
 }

@@ -1,14 +1,22 @@
-// The questions 1 to 7 to calls on planes and slices, over numbers: each call's first "no", 0 where there is none.
+// The questions 1 to 7 to calls on planes and slices, over numbers: each call's first "no".
 // Rows and streams are named by their lengths. Any numbers whatever are allowed; no sum or product overflows.
+ghost use Rattle.ask.specs.Refusals.{given};
 ghost use Rattle.calls.specs.Questions.{reading_questions};
 ghost use Rattle.questions.specs.of_call.Numbers.{PlaneNumber, SliceNumber};
 ghost use Rattle.slice.specs.Room.{coding_questions};
 
+use ask::Refusal;
 use calls::{Four, Settings, Shape, Stream};
 
 // To a call that codes one plane.
-pub fn coding_plane(s: Settings, h: Shape, rows: usize, dc: Stream, ac: Stream) -> u32
-    ensures { PlaneNumber coding_questions s h rows dc ac result }
+pub fn coding_plane(
+    s: Settings,
+    h: Shape,
+    rows: usize,
+    dc: Stream,
+    ac: Stream,
+) -> Result<(), Refusal>
+    ensures { PlaneNumber coding_questions s h rows dc ac (given result) }
 {
     let which = ask::place_ok(h.place);
     let strides = ask::stride_ok(h.stride);
@@ -17,8 +25,14 @@ pub fn coding_plane(s: Settings, h: Shape, rows: usize, dc: Stream, ac: Stream) 
 }
 
 // To a call that reads one plane.
-pub fn reading_plane(s: Settings, h: Shape, rows: usize, dc: Stream, ac: Stream) -> u32
-    ensures { PlaneNumber reading_questions s h rows dc ac result }
+pub fn reading_plane(
+    s: Settings,
+    h: Shape,
+    rows: usize,
+    dc: Stream,
+    ac: Stream,
+) -> Result<(), Refusal>
+    ensures { PlaneNumber reading_questions s h rows dc ac (given result) }
 {
     let which = ask::place_ok(h.place);
     let strides = ask::stride_ok(h.stride);
@@ -27,8 +41,14 @@ pub fn reading_plane(s: Settings, h: Shape, rows: usize, dc: Stream, ac: Stream)
 }
 
 // To a call that codes the first of four planes; the others are not asked about.
-pub fn coding_slice(s: Settings, f: Four, rows: [usize; 4], dc: Stream, ac: Stream) -> u32
-    ensures { SliceNumber coding_questions s f rows dc ac result }
+pub fn coding_slice(
+    s: Settings,
+    f: Four,
+    rows: [usize; 4],
+    dc: Stream,
+    ac: Stream,
+) -> Result<(), Refusal>
+    ensures { SliceNumber coding_questions s f rows dc ac (given result) }
 {
     let which = ask::count_ok(f.count);
     let strides = crate::four::strides_ok(f);
@@ -38,8 +58,14 @@ pub fn coding_slice(s: Settings, f: Four, rows: [usize; 4], dc: Stream, ac: Stre
 }
 
 // To a call that reads the first of four planes.
-pub fn reading_slice(s: Settings, f: Four, rows: [usize; 4], dc: Stream, ac: Stream) -> u32
-    ensures { SliceNumber reading_questions s f rows dc ac result }
+pub fn reading_slice(
+    s: Settings,
+    f: Four,
+    rows: [usize; 4],
+    dc: Stream,
+    ac: Stream,
+) -> Result<(), Refusal>
+    ensures { SliceNumber reading_questions s f rows dc ac (given result) }
 {
     let which = ask::count_ok(f.count);
     let strides = crate::four::strides_ok(f);

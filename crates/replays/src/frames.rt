@@ -1,9 +1,11 @@
 // The Rust's answers to small frames, whole, cut and changed. A record of 148 bytes (oracle/ANSWERS.md): width, height, the
 // frame's length, a stream that is asked for, the header and the stream's place as the Rust answered them, the frame.
+use ask::Refusal;
 use ask::limits::{HEIGHT_MAX, SLICES_MAX};
 use layout::Kind;
-use parser::{FrameAnswer, ViewAnswer};
-use replay::{Record, byte32, part, size, wide};
+use parser::View;
+use parser::head::Header;
+use replay::{Record, part};
 use vmx::container::vmx_stream;
 
 pub const LENGTH: usize = 148;
@@ -12,8 +14,15 @@ const VIEWS: usize = 2 * SLICES_MAX + 2;
 // Two numbers for each.
 const TABLE: usize = 2 * VIEWS;
 
-pub fn flag(x: bool) -> u8 {
-    if x { 1 } else { 0 }
+// A frame, and the stream of it that is asked for.
+#[derive(Clone, Copy)]
+struct Frame<'a> {
+    record: Record<'a>,
+    width: usize,
+    height: usize,
+    bytes: &'a [u8],
+    ac: bool,
+    slice: usize,
 }
 
 // A kind of stream, AC or DC.
@@ -21,143 +30,110 @@ pub fn kind_of(ac: bool) -> Kind {
     if ac { Kind::Ac } else { Kind::Dc }
 }
 
-// The numbers of a header that was read.
-fn same_header(b: &Record, interlaced: bool, quality: u8, shift: u8, len: usize, ac: bool) -> bool {
-    if b[7] != 0 {
-        return false;
+impl<'a> Frame<'a> {
+    fn of(record: Record<'a>) -> Frame<'a> {
+        Frame {
+            record,
+            width: record.size(0),
+            height: record.size(2),
+            bytes: record.part(20, record.small(4)),
+            ac: record.flag(5),
+            slice: record.small(6),
+        }
     }
-    if b[8] != flag(interlaced) {
-        return false;
-    }
-    if b[9] != quality {
-        return false;
-    }
-    if b[10] != shift {
-        return false;
-    }
-    if wide(b[11]) != len {
-        return false;
-    }
-    b[12] == flag(ac)
-}
 
-// The header, or its refusal.
-fn header(b: &Record, width: usize, height: usize, frame: &[u8]) -> bool {
-    match parser::parse(width, height, frame) {
-        FrameAnswer::Refused(x) => x == byte32(b[7]),
-        FrameAnswer::Frame(h) => {
-            same_header(b, h.interlaced, h.quality, h.dc_shift, h.header_len, h.ac)
+    // The stored header, or its refusal.
+    fn stored_header(self) -> Result<Header, u32> {
+        let header = Header {
+            interlaced: self.record.flag(8),
+            quality: self.record.byte(9),
+            dc_shift: self.record.byte(10),
+            header_len: self.record.small(11),
+            ac: self.record.flag(12),
+        };
+        self.record.answer(7, header)
+    }
+
+    // Where the stream lies.
+    fn view(self) -> View {
+        View {
+            offset: self.record.small(14),
+            len: self.record.small(15),
+        }
+    }
+
+    // The header, or its refusal.
+    fn header(self) -> bool {
+        parser::parse(self.width, self.height, self.bytes).map_err(Refusal::number)
+            == self.stored_header()
+    }
+
+    // The place of the stream, or its refusal.
+    fn place(self) -> bool {
+        let kind = kind_of(self.ac);
+        parser::view_at(self.width, self.height, self.bytes, kind, self.slice).map_err(
+            Refusal::number,
+        ) == self.record.answer(13, self.view())
+    }
+
+    // The stream itself, a part of the frame.
+    fn stream(self) -> bool {
+        let kind = kind_of(self.ac);
+        let View { offset, len } = self.view();
+        parser::stream(self.width, self.height, self.bytes, kind, self.slice).map_err(
+            Refusal::number,
+        ) == self.record.answer(13, part(self.bytes, offset, len))
+    }
+
+    // The exported call: where the stream lies.
+    fn exported(self) -> bool {
+        let mut offset = 7;
+        let mut len = 7;
+        let number = vmx_stream(
+            self.width,
+            self.height,
+            self.bytes,
+            u32::from(self.ac),
+            self.slice,
+            &mut offset,
+            &mut len,
+        );
+        number == u32::from(self.record.byte(13)) && View { offset, len } == self.view()
+    }
+
+    // The place asked for in the table: 0 and 0 where the frame has no AC. Of a slice that is not there it says nothing.
+    fn in_table(self, table: &[u32; TABLE]) -> bool {
+        if HEIGHT_MAX < self.height {
+            return false;
+        }
+        let slices = layout::slice_count(self.height);
+        if slices <= self.slice {
+            return true;
+        }
+        let view = if self.ac {
+            slices + self.slice
+        } else {
+            self.slice
+        };
+        part(table, 2 * view, 2)
+            == [
+                u32::from(self.record.byte(14)),
+                u32::from(self.record.byte(15)),
+            ]
+            .as_slice()
+    }
+
+    // Header and table, or the refusal.
+    fn tabled(self) -> bool {
+        let mut table = [7; TABLE];
+        match views::all_views(self.width, self.height, self.bytes, &mut table) {
+            Err(no) => Err(no.number()) == self.stored_header() && table[0] == 7,
+            Ok(header) => Ok(header) == self.stored_header() && self.in_table(&table),
         }
     }
 }
 
-// The place of a stream that was found.
-fn same_place(b: &Record, at: usize, len: usize) -> bool {
-    if b[13] != 0 {
-        return false;
-    }
-    if wide(b[14]) != at {
-        return false;
-    }
-    wide(b[15]) == len
-}
-
-// The place of a stream, or its refusal.
-fn place(b: &Record, width: usize, height: usize, frame: &[u8]) -> bool {
-    let kind = kind_of(b[5] == 1);
-    match parser::view_at(width, height, frame, kind, wide(b[6])) {
-        ViewAnswer::Refused(x) => x == byte32(b[13]),
-        ViewAnswer::Part(p, n) => same_place(b, p, n),
-    }
-}
-
-// The stream itself, a part of the frame: its bytes; none where it is refused.
-fn stream(b: &Record, width: usize, height: usize, frame: &[u8]) -> bool {
-    let kind = kind_of(b[5] == 1);
-    let mut number = 255;
-    let s = parser::stream(width, height, frame, kind, wide(b[6]), &mut number);
-    same_bytes(b, number, s, part(frame, wide(b[14]), wide(b[15])))
-}
-
-fn same_bytes(b: &Record, number: u32, s: &[u8], stored: &[u8]) -> bool {
-    if number != byte32(b[13]) {
-        return false;
-    }
-    if s.len() != stored.len() {
-        return false;
-    }
-    replay::holds_stored(s, 0, 0, s.len(), stored)
-}
-
-// The exported call: where the stream lies.
-fn exported(b: &Record, width: usize, height: usize, frame: &[u8]) -> bool {
-    let mut offset = 7usize;
-    let mut len = 7usize;
-    let x = vmx_stream(
-        width,
-        height,
-        frame,
-        byte32(b[5]),
-        wide(b[6]),
-        &mut offset,
-        &mut len,
-    );
-    if x != byte32(b[13]) {
-        return false;
-    }
-    if offset != wide(b[14]) {
-        return false;
-    }
-    len == wide(b[15])
-}
-
-// A view in a table of all views.
-fn same_view(b: &Record, view: usize, table: &[u32; TABLE]) -> bool {
-    if VIEWS <= view {
-        return false;
-    }
-    let i = 2 * view;
-    table[i] == byte32(b[14]) && table[i + 1] == byte32(b[15])
-}
-
-// The place asked for in the table: 0 and 0 where the frame has no AC. Of a slice that is not there it says nothing.
-fn in_table(b: &Record, height: usize, table: &[u32; TABLE]) -> bool {
-    if HEIGHT_MAX < height {
-        return false;
-    }
-    let slices = layout::slice_count(height);
-    let slice = wide(b[6]);
-    if SLICES_MAX < slices {
-        return false;
-    }
-    if slices <= slice {
-        return true;
-    }
-    if b[5] == 1 {
-        return same_view(b, slices + slice, table);
-    }
-    same_view(b, slice, table)
-}
-
-// Header and table, or the refusal.
-fn tabled(b: &Record, width: usize, height: usize, frame: &[u8]) -> bool {
-    let mut table = [7u32; TABLE];
-    match views::all_views(width, height, frame, &mut table) {
-        FrameAnswer::Refused(x) => x == byte32(b[7]) && table[0] == 7,
-        FrameAnswer::Frame(h) => {
-            same_header(b, h.interlaced, h.quality, h.dc_shift, h.header_len, h.ac)
-                && in_table(b, height, &table)
-        }
-    }
-}
-
-pub fn holds(b: &Record) -> bool {
-    let width = size(b, 0);
-    let height = size(b, 2);
-    let frame = part(b, 20, wide(b[4]));
-    header(b, width, height, frame)
-        && place(b, width, height, frame)
-        && stream(b, width, height, frame)
-        && exported(b, width, height, frame)
-        && tabled(b, width, height, frame)
+pub fn holds(record: Record<'_>) -> bool {
+    let frame = Frame::of(record);
+    frame.header() && frame.place() && frame.stream() && frame.exported() && frame.tabled()
 }

@@ -1,87 +1,65 @@
 // The questions to calls on planes and slices over numbers alone, and the size calls: no memory is lent, so lengths and starts
 // are any. A record of 144 bytes (oracle/ANSWERS.md): the call, its number, its arguments, the lengths that a size call names.
+use ask::Refusal;
 use calls::{Four, Settings, Shape, Stream};
-use questions::answers::SizeAnswer;
+use questions::answers::Lengths;
 use questions::{of_call, sizes};
-use replay::{Record, byte32, number32, position};
+use replay::Record;
 
 pub const LENGTH: usize = 144;
 
-fn settings(b: &Record) -> Settings {
+fn settings(record: Record<'_>) -> Settings {
     Settings {
-        preset: position(b, 8),
-        shift: number32(b, 16),
+        preset: record.position(8),
+        shift: record.number(16),
     }
 }
 
 // Of one plane: its place, and plane 0's stride.
-fn shape(b: &Record) -> Shape {
+fn shape(record: Record<'_>) -> Shape {
     Shape {
-        place: position(b, 24),
-        stride: position(b, 32),
+        place: record.position(24),
+        stride: record.position(32),
     }
 }
 
 // Of a slice.
-fn four(b: &Record) -> Four {
-    let strides = [
-        position(b, 32),
-        position(b, 40),
-        position(b, 48),
-        position(b, 56),
-    ];
+fn four(record: Record<'_>) -> Four {
     Four {
-        count: position(b, 24),
-        strides,
+        count: record.position(24),
+        strides: record.numbers(32),
     }
 }
 
-// How many samples the rows of each plane have.
-fn rows(b: &Record) -> [usize; 4] {
-    [
-        position(b, 64),
-        position(b, 72),
-        position(b, 80),
-        position(b, 88),
-    ]
+fn stream(record: Record<'_>, at: usize) -> Stream {
+    let [len, at]: [usize; 2] = record.numbers(at);
+    Stream { len, at }
 }
 
-fn dc(b: &Record) -> Stream {
-    Stream {
-        len: position(b, 96),
-        at: position(b, 104),
+// What a call that codes or reads is asked before question 8. `rows` is how many samples the rows of each plane have.
+fn asked(record: Record<'_>) -> Result<(), Refusal> {
+    let settings = settings(record);
+    let rows: [usize; 4] = record.numbers(64);
+    let dc = stream(record, 96);
+    let ac = stream(record, 112);
+    match record.byte(0) {
+        0 => of_call::coding_plane(settings, shape(record), rows[0], dc, ac),
+        1 => of_call::reading_plane(settings, shape(record), rows[0], dc, ac),
+        2 => of_call::coding_slice(settings, four(record), rows, dc, ac),
+        _ => of_call::reading_slice(settings, four(record), rows, dc, ac),
     }
 }
 
-fn ac(b: &Record) -> Stream {
-    Stream {
-        len: position(b, 112),
-        at: position(b, 120),
-    }
+// Whether a size call answers as stored: the lengths of DC and AC, or its refusal.
+fn sized(record: Record<'_>, answer: Result<Lengths, Refusal>) -> bool {
+    let lengths: [usize; 2] = record.numbers(128);
+    answer.map(|l| [l.dc, l.ac]).map_err(Refusal::number) == record.answer(1, lengths)
 }
 
-// The number of a call that codes or reads, before question 8.
-fn number(b: &Record) -> u32 {
-    match b[0] {
-        0 => of_call::coding_plane(settings(b), shape(b), position(b, 64), dc(b), ac(b)),
-        1 => of_call::reading_plane(settings(b), shape(b), position(b, 64), dc(b), ac(b)),
-        2 => of_call::coding_slice(settings(b), four(b), rows(b), dc(b), ac(b)),
-        _ => of_call::reading_slice(settings(b), four(b), rows(b), dc(b), ac(b)),
-    }
-}
-
-// The lengths of a size call, or its refusal.
-fn sized(b: &Record, r: SizeAnswer) -> bool {
-    match r {
-        SizeAnswer::Refused(x) => x == byte32(b[1]) && 0 < x,
-        SizeAnswer::Sized(d, a) => b[1] == 0 && d == position(b, 128) && a == position(b, 136),
-    }
-}
-
-pub fn holds(b: &Record) -> bool {
-    match b[0] {
-        4 => sized(b, sizes::plane_size(position(b, 32))),
-        5 => sized(b, sizes::slice_size(four(b))),
-        _ => number(b) == byte32(b[1]),
+pub fn holds(record: Record<'_>) -> bool {
+    match record.byte(0) {
+        4 => sized(record, sizes::plane_size(record.position(32))),
+        5 => sized(record, sizes::slice_size(four(record))),
+        _ => asked(record).map_err(Refusal::number) == record.answer(1, ()),
     }
 }

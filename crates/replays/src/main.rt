@@ -2,8 +2,11 @@
 // is computed anew and compared, and the counts of each part are written.
 #![tactic(auto)]
 
+ghost use Rattle.std.specs.Prelude.{◌<◌};
+
 mod arguments;
 mod built;
+mod depths;
 mod frames;
 mod layouts;
 mod limits;
@@ -15,110 +18,51 @@ mod of_tables;
 mod pictures;
 mod reads;
 
-use replay::Record;
+use replay::{Counts, Record};
 use std::fs::File;
 use std::io;
 use std::io::Read;
 use std::rt::Files;
 
-#[derive(Clone, Copy)]
-enum Part {
-    Bits,
-    Built,
-    Dct,
-    Frames,
-    Lanes,
-    Layouts,
-    Limits,
-    Planes,
-    Reads,
-    Shown,
-    Tables,
-}
-
-// The length of a part's records.
-fn length_of(p: Part) -> usize {
-    match p {
-        Part::Bits => of_bits::LENGTH,
-        Part::Built => built::LENGTH,
-        Part::Dct => of_dct::LENGTH,
-        Part::Frames => frames::LENGTH,
-        Part::Lanes => of_lanes::LENGTH,
-        Part::Layouts => layouts::LENGTH,
-        Part::Limits => limits::LENGTH,
-        Part::Planes => of_planes::LENGTH,
-        Part::Reads => reads::LENGTH,
-        Part::Shown => pictures::LENGTH,
-        Part::Tables => of_tables::LENGTH,
-    }
-}
-
-// Whether our answer to a record is the Rust's.
-fn holds(p: Part, b: &Record) -> bool {
-    match p {
-        Part::Bits => of_bits::holds(b),
-        Part::Built => built::holds(b),
-        Part::Dct => of_dct::holds(b),
-        Part::Frames => frames::holds(b),
-        Part::Lanes => of_lanes::holds(b),
-        Part::Layouts => layouts::holds(b),
-        Part::Limits => limits::holds(b),
-        Part::Planes => of_planes::holds(b),
-        Part::Reads => reads::holds(b),
-        Part::Shown => pictures::holds(b),
-        Part::Tables => of_tables::holds(b),
-    }
-}
-
-// Reads and compares one record; false where there is none. One that is cut off counts as different.
-fn turn(p: Part, file: &mut impl Read, counts: &mut [u64; 2]) -> io::Result<bool> {
-    let mut b = [0u8; replay::LONGEST];
-    let length = length_of(p);
-    let n = replay::read_full(file, replay::cut(&mut b, length))?;
-    if n == 0 {
-        return Ok(false);
-    }
-    let whole = n == length;
-    replay::count(counts, whole && holds(p, &b));
-    Ok(true)
-}
-
-// A proved loop has to end, and nothing says that a file does: so the turns are counted, up to a number that no run uses up.
-fn all(p: Part, file: &mut impl Read, counts: &mut [u64; 2]) -> io::Result<()> {
-    for _ in 0..1000000 {
-        if !turn(p, file, counts)? {
-            break;
+// A part, whose file has its name: counts the records whose answer is ours. One that is cut off counts as different; where no such
+// file opens, nothing is equal.
+fn replayed<F: Fn(Record<'_>) -> bool + Drop>(
+    rt: &(impl Files + Print + Alloc),
+    name: &str,
+    length: usize,
+    holds: F,
+) -> io::Result<()>
+    requires callable { F.IsAlwaysCallable holds }
+    requires whole { 0 < length }
+{
+    let mut counts = Counts::default();
+    if let Ok(mut file) = File::open(rt, name) {
+        let mut bytes = Vec::new(rt.alloc());
+        file.read_to_end(&mut bytes)?;
+        for record in bytes.chunks(length) {
+            counts.count(record.len() == length && holds(Record::new(record)));
         }
     }
-    Ok(())
-}
-
-// A part, whose file has its name. Where there is no such file, nothing is equal.
-fn replayed(rt: &(impl Files + Print), p: Part, name: &str) -> io::Result<()> {
-    let mut counts = [0u64; 2];
-    if let Ok(mut file) = File::open(rt, name) {
-        all(p, &mut file, &mut counts)?;
-    }
-    replay::say(rt, name, &counts)
+    println!(rt; "{name}: {counts}")
 }
 
 // The functions that the probes open.
-fn inner(rt: &(impl Files + Print)) -> io::Result<()> {
-    replayed(rt, Part::Bits, "bits")?;
-    replayed(rt, Part::Dct, "dct")?;
-    replayed(rt, Part::Lanes, "lanes")?;
-    replayed(rt, Part::Tables, "tables")
+fn inner(rt: &(impl Files + Print + Alloc)) -> io::Result<()> {
+    replayed(rt, "bits", of_bits::LENGTH, of_bits::holds)?;
+    replayed(rt, "dct", of_dct::LENGTH, of_dct::holds)?;
+    replayed(rt, "lanes", of_lanes::LENGTH, of_lanes::holds)?;
+    replayed(rt, "tables", of_tables::LENGTH, of_tables::holds)
 }
 
 // The calls on frames, planes and slices.
-fn calls(rt: &(impl Files + Print)) -> io::Result<()> {
-    replayed(rt, Part::Built, "built")?;
-    replayed(rt, Part::Frames, "frames")?;
-    replayed(rt, Part::Layouts, "layouts")?;
-    replayed(rt, Part::Limits, "limits")?;
-    replayed(rt, Part::Planes, "planes")?;
-    replayed(rt, Part::Reads, "reads")?;
-    replayed(rt, Part::Shown, "shown")
+fn calls(rt: &(impl Files + Print + Alloc)) -> io::Result<()> {
+    replayed(rt, "built", built::LENGTH, built::holds)?;
+    replayed(rt, "frames", frames::LENGTH, frames::holds)?;
+    replayed(rt, "layouts", layouts::LENGTH, layouts::holds)?;
+    replayed(rt, "limits", limits::LENGTH, limits::holds)?;
+    replayed(rt, "planes", of_planes::LENGTH, of_planes::holds)?;
+    replayed(rt, "reads", reads::LENGTH, reads::holds)?;
+    replayed(rt, "shown", pictures::LENGTH, pictures::holds)
 }
 
 fn main(rt: HostRuntime) -> io::Result<()> {

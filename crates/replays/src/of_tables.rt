@@ -2,49 +2,42 @@
 // quality, a place, a byte without meaning, and four numbers that the Rust answered.
 use ask::limits::PRESET_MAX;
 use probe::of_tables::{probe_tables_decode, probe_tables_encode, probe_tables_zigzag};
-use replay::{Record, number, size, unsigned, wide};
+use replay::Record;
 use tables::quality::quality_preset;
 
 pub const LENGTH: usize = 12;
 
-// Correction, reciprocal and scale of a preset's place.
-fn quantiser(b: &Record, preset: usize, place: usize) -> bool {
-    if 63 < place {
-        return false;
-    }
-    if probe_tables_encode(preset, place) != number(b, 6) {
-        return false;
-    }
-    if probe_tables_encode(preset, 64 + place) != number(b, 8) {
-        return false;
-    }
-    probe_tables_encode(preset, 128 + place) == number(b, 10)
-}
-
-// The divisor of a preset's place, and its numbers for coding.
-fn numbers(b: &Record, preset: usize, place: usize) -> bool {
-    if PRESET_MAX < preset {
-        return false;
-    }
-    probe_tables_decode(preset, place) == number(b, 4) && quantiser(b, preset, place)
+// The divisor of a preset's place, and its numbers for coding: correction, reciprocal and scale.
+fn numbers(record: Record<'_>) -> bool {
+    let preset = record.small(1);
+    let place = record.small(2);
+    preset <= PRESET_MAX
+        && place < 64
+        && record.numbers(4)
+            == [
+                probe_tables_decode(preset, place),
+                probe_tables_encode(preset, place),
+                probe_tables_encode(preset, 64 + place),
+                probe_tables_encode(preset, 128 + place),
+            ]
 }
 
 // The natural place of a place of the scan.
-fn scan(b: &Record, place: usize) -> bool {
-    unsigned(probe_tables_zigzag(place)) == number(b, 4)
+fn scan(record: Record<'_>) -> bool {
+    let place = record.small(2);
+    place < 64 && u16::from(probe_tables_zigzag(place)) == record.number(4)
 }
 
 // The quality in force, and its preset.
-fn quality(b: &Record) -> bool {
-    let p = quality_preset(b[1]);
-    unsigned(p.quality) == number(b, 4) && p.index == size(b, 6)
+fn quality(record: Record<'_>) -> bool {
+    let preset = quality_preset(record.byte(1));
+    u16::from(preset.quality) == record.number(4) && preset.index == record.size(6)
 }
 
-pub fn holds(b: &Record) -> bool {
-    let place = wide(b[2]);
-    match b[0] {
-        0 => numbers(b, wide(b[1]), place),
-        1 => place < 64 && scan(b, place),
-        _ => quality(b),
+pub fn holds(record: Record<'_>) -> bool {
+    match record.byte(0) {
+        0 => numbers(record),
+        1 => scan(record),
+        _ => quality(record),
     }
 }

@@ -1,11 +1,10 @@
 // The Rust's reading calls on small planes and slices, previews and block reports. A record of 808 bytes (oracle/ANSWERS.md):
 // the call's arguments, its answer, both streams, and what the rows hold after the call.
-ghost use Rattle.std.specs.Prelude.{◌<◌};
-
-use crate::arguments::{four, positions, settings, shape};
-use acread::through::PlaneEnd;
-use questions::answers::ReadAnswer;
-use replay::{Asked, Record, answered, call_of, cut, cut16, part, position, size};
+use crate::arguments::Call;
+use crate::depths::Depth;
+use calls::Positions;
+use questions::answers::Refused;
+use replay::{Record, cut, part};
 
 pub const LENGTH: usize = 808;
 // Document 01's lengths of the longest streams that may be read, not those of crate ask: a wrong one there is to be seen.
@@ -14,274 +13,159 @@ const LONGEST_DC: usize = 245760;
 const LONGEST_AC: usize = 430080;
 // One byte more than the longest AC stream.
 const ONES: usize = LONGEST_AC + 1;
+// The samples that each plane has room for.
+const ROOM: usize = 280;
 
-// The DC stream.
-fn dc_of(b: &[u8]) -> &[u8] {
-    part(b, 72, size(b, 10))
+// A stored call and the streams that it reads.
+#[derive(Clone, Copy)]
+struct Reading<'a> {
+    call: Call<'a>,
+    dc: &'a [u8],
+    ac: &'a [u8],
 }
 
-// The AC stream.
-fn ac_of(b: &[u8]) -> &[u8] {
-    part(b, 96, size(b, 12))
-}
+impl Reading<'_> {
+    // Rows as they are before the call.
+    fn room<T: Depth>(self) -> [T; ROOM] {
+        [self.call.filled(); ROOM]
+    }
 
-// The answer to a call on both streams.
-fn same_answer(b: &[u8], r: ReadAnswer) -> bool {
-    match r {
-        ReadAnswer::Refused(x, at) => {
-            if x == 0 {
-                false
-            } else {
-                answered(b, x, at.dc, at.ac)
-            }
+    // The samples that are stored.
+    fn stored<T: Depth>(self) -> [T; 512] {
+        self.call.record.numbers(296)
+    }
+
+    // Whether a plane's rows hold what is stored from a sample on, and what they were filled with after it.
+    fn hold<T: Depth>(self, rows: &[T], stored: &[T], start: usize, n: usize) -> bool {
+        replay::holds(rows, self.call.filled(), 0..n, part(stored, start, n))
+    }
+
+    fn plane<T: Depth>(self, rows: &mut [T], stored: &[T]) -> bool {
+        let call = self.call;
+        let [start, ..] = call.starts();
+        let [n, ..] = call.counts();
+        let answer = decoder::decode_plane(
+            cut(rows, n),
+            call.shape(),
+            call.settings(),
+            self.dc,
+            self.ac,
+            call.positions(),
+        );
+        call.answered(answer) && self.hold(rows, stored, start, n)
+    }
+
+    fn slice<T: Depth>(
+        self,
+        p0: &mut [T],
+        p1: &mut [T],
+        p2: &mut [T],
+        p3: &mut [T],
+        stored: &[T],
+    ) -> bool {
+        let call = self.call;
+        let [start0, start1, start2, start3] = call.starts();
+        let [n0, n1, n2, n3] = call.counts();
+        let answer = decoder::decode_slice(
+            cut(p0, n0),
+            cut(p1, n1),
+            cut(p2, n2),
+            cut(p3, n3),
+            call.four(),
+            call.settings(),
+            self.dc,
+            self.ac,
+            call.positions(),
+        );
+        call.answered(answer)
+            && self.hold(p0, stored, start0, n0)
+            && self.hold(p1, stored, start1, n1)
+            && self.hold(p2, stored, start2, n2)
+            && self.hold(p3, stored, start3, n3)
+    }
+
+    // A preview, into the rows of two planes.
+    fn preview(self) -> bool {
+        let call = self.call;
+        let stored = self.stored::<u8>();
+        let [start0, start1, ..] = call.starts();
+        let [n0, n1, ..] = call.counts();
+        let mut upper = self.room();
+        let mut lower = self.room();
+        let start = call.positions();
+        let answer = preview::preview(
+            call.settings().shift,
+            call.shape(),
+            cut(&mut upper, n0),
+            cut(&mut lower, n1),
+            self.dc,
+            start.dc,
+        );
+        let ends = answer
+            .map(|dc| Positions { dc, ac: start.ac })
+            .map_err(|no| Refused { no, start });
+        call.answered(ends)
+            && self.hold(&upper, &stored, start0, n0)
+            && self.hold(&lower, &stored, start1, n1)
+    }
+
+    // A block report, into one plane's rows.
+    fn report(self) -> bool {
+        let call = self.call;
+        let stored = self.stored::<u8>();
+        let [start0, ..] = call.starts();
+        let [n0, ..] = call.counts();
+        let mut rows = self.room();
+        let start = call.positions();
+        let stride = call.shape().stride;
+        let answer = preview::report::block_report(stride, cut(&mut rows, n0), self.ac, start.ac);
+        let ends = answer
+            .map(|ac| Positions { dc: start.dc, ac })
+            .map_err(|no| Refused { no, start });
+        call.answered(ends) && self.hold(&rows, &stored, start0, n0)
+    }
+
+    // The call that the record names.
+    fn holds(self) -> bool {
+        match self.call.record.byte(0) {
+            0 => self.plane::<u8>(&mut self.room(), &self.stored()),
+            1 => self.plane::<u16>(&mut self.room(), &self.stored()),
+            2 => self.slice::<u8>(
+                &mut self.room(),
+                &mut self.room(),
+                &mut self.room(),
+                &mut self.room(),
+                &self.stored(),
+            ),
+            3 => self.slice::<u16>(
+                &mut self.room(),
+                &mut self.room(),
+                &mut self.room(),
+                &mut self.room(),
+                &self.stored(),
+            ),
+            4 => self.preview(),
+            _ => self.report(),
         }
-        ReadAnswer::Accepted(at) => answered(b, 0, at.dc, at.ac),
     }
 }
 
-// The call on an 8-bit plane.
-fn decode_plane8(c: Asked, rows: &mut [u8], dc: &[u8], ac: &[u8]) -> ReadAnswer {
-    decoder::eight::decode_plane(rows, shape(c), settings(c), dc, ac, positions(c))
+// On streams of ones, as long as may be read, or with a byte more.
+fn holds_on_ones(call: Call<'_>, longer_dc: bool, longer_ac: bool) -> bool {
+    let ones = [255; ONES];
+    let dc = part(&ones, 0, LONGEST_DC + usize::from(longer_dc));
+    let ac = part(&ones, 0, LONGEST_AC + usize::from(longer_ac));
+    Reading { call, dc, ac }.holds()
 }
 
-// The call on a 10-bit plane.
-fn decode_plane10(c: Asked, rows: &mut [u16], dc: &[u8], ac: &[u8]) -> ReadAnswer {
-    decoder::ten::decode_plane(rows, shape(c), settings(c), dc, ac, positions(c))
-}
-
-// The call on an 8-bit slice.
-fn decode_slice8(
-    c: Asked,
-    p0: &mut [u8],
-    p1: &mut [u8],
-    p2: &mut [u8],
-    p3: &mut [u8],
-    dc: &[u8],
-    ac: &[u8],
-) -> ReadAnswer {
-    decoder::eight::decode_slice(p0, p1, p2, p3, four(c), settings(c), dc, ac, positions(c))
-}
-
-// The call on a 10-bit slice.
-fn decode_slice10(
-    c: Asked,
-    p0: &mut [u16],
-    p1: &mut [u16],
-    p2: &mut [u16],
-    p3: &mut [u16],
-    dc: &[u8],
-    ac: &[u8],
-) -> ReadAnswer {
-    decoder::ten::decode_slice(p0, p1, p2, p3, four(c), settings(c), dc, ac, positions(c))
-}
-
-// A preview, into the first two planes' rows.
-fn preview(c: Asked, upper: &mut [u8], lower: &mut [u8], dc: &[u8]) -> PlaneEnd {
-    preview::preview(c.shift, shape(c), upper, lower, dc, c.d)
-}
-
-// A block report, into the first plane's rows.
-fn block_report(c: Asked, rows: &mut [u8], ac: &[u8]) -> PlaneEnd {
-    preview::report::block_report(c.strides[0], rows, ac, c.a)
-}
-
-// Rows of plane k, as many samples as the record says.
-fn rows8<'a>(b: &Record, k: usize, rows: &'a mut [u8]) -> &'a mut [u8] {
-    if 3 < k {
-        return cut(rows, 0);
-    }
-    cut(rows, size(b, 32 + 2 * k))
-}
-
-fn rows10<'a>(b: &Record, k: usize, rows: &'a mut [u16]) -> &'a mut [u16] {
-    if 3 < k {
-        return cut16(rows, 0);
-    }
-    cut16(rows, size(b, 32 + 2 * k))
-}
-
-// Whether rows of 8-bit samples hold what is stored for plane k, and the fill after it.
-fn same8(b: &Record, k: usize, rows: &[u8; 280]) -> bool {
-    if 3 < k {
-        return false;
-    }
-    let n = size(b, 32 + 2 * k);
-    replay::holds_stored(rows, b[1], 0, n, part(b, 296 + size(b, 24 + 2 * k), n))
-}
-
-// The same of 10-bit samples, two bytes each.
-fn same10(b: &Record, k: usize, rows: &[u16; 280]) -> bool {
-    if 3 < k {
-        return false;
-    }
-    let n = size(b, 32 + 2 * k);
-    let fill = replay::twice(b[1]);
-    replay::holds_stored16(rows, fill, n, part(b, 296 + 2 * size(b, 24 + 2 * k), 2 * n))
-}
-
-// A plane of 8-bit samples.
-fn plane8(b: &Record, dc: &[u8], ac: &[u8]) -> bool {
-    let mut p = [b[1]; 280];
-    let r = decode_plane8(call_of(b), rows8(b, 0, &mut p), dc, ac);
-    same_answer(b, r) && same8(b, 0, &p)
-}
-
-// A plane of 10-bit samples.
-fn plane10(b: &Record, dc: &[u8], ac: &[u8]) -> bool {
-    let mut p = [replay::twice(b[1]); 280];
-    let r = decode_plane10(call_of(b), rows10(b, 0, &mut p), dc, ac);
-    same_answer(b, r) && same10(b, 0, &p)
-}
-
-// The rows of four planes.
-fn all_same8(b: &Record, p0: &[u8; 280], p1: &[u8; 280], p2: &[u8; 280], p3: &[u8; 280]) -> bool {
-    same8(b, 0, p0) && same8(b, 1, p1) && same8(b, 2, p2) && same8(b, 3, p3)
-}
-
-// The call on a slice, on the parts of these rows that the record names.
-fn read_slice8(
-    b: &Record,
-    dc: &[u8],
-    ac: &[u8],
-    p0: &mut [u8],
-    p1: &mut [u8],
-    p2: &mut [u8],
-    p3: &mut [u8],
-) -> ReadAnswer {
-    decode_slice8(
-        call_of(b),
-        rows8(b, 0, p0),
-        rows8(b, 1, p1),
-        rows8(b, 2, p2),
-        rows8(b, 3, p3),
-        dc,
-        ac,
-    )
-}
-
-// A slice of 8-bit samples.
-fn slice8(b: &Record, dc: &[u8], ac: &[u8]) -> bool {
-    let fill = b[1];
-    let mut p0 = [fill; 280];
-    let mut p1 = [fill; 280];
-    let mut p2 = [fill; 280];
-    let mut p3 = [fill; 280];
-    let r = read_slice8(b, dc, ac, &mut p0, &mut p1, &mut p2, &mut p3);
-    same_answer(b, r) && all_same8(b, &p0, &p1, &p2, &p3)
-}
-
-// The rows of four planes.
-fn all_same10(
-    b: &Record,
-    p0: &[u16; 280],
-    p1: &[u16; 280],
-    p2: &[u16; 280],
-    p3: &[u16; 280],
-) -> bool {
-    same10(b, 0, p0) && same10(b, 1, p1) && same10(b, 2, p2) && same10(b, 3, p3)
-}
-
-// The call on a slice, on the parts of these rows that the record names.
-fn read_slice10(
-    b: &Record,
-    dc: &[u8],
-    ac: &[u8],
-    p0: &mut [u16],
-    p1: &mut [u16],
-    p2: &mut [u16],
-    p3: &mut [u16],
-) -> ReadAnswer {
-    decode_slice10(
-        call_of(b),
-        rows10(b, 0, p0),
-        rows10(b, 1, p1),
-        rows10(b, 2, p2),
-        rows10(b, 3, p3),
-        dc,
-        ac,
-    )
-}
-
-// A slice of 10-bit samples.
-fn slice10(b: &Record, dc: &[u8], ac: &[u8]) -> bool {
-    let fill = replay::twice(b[1]);
-    let mut p0 = [fill; 280];
-    let mut p1 = [fill; 280];
-    let mut p2 = [fill; 280];
-    let mut p3 = [fill; 280];
-    let r = read_slice10(b, dc, ac, &mut p0, &mut p1, &mut p2, &mut p3);
-    same_answer(b, r) && all_same10(b, &p0, &p1, &p2, &p3)
-}
-
-// The answer to a preview.
-fn same_preview(b: &Record, r: PlaneEnd) -> bool {
-    match r {
-        PlaneEnd::Refused(x) => answered(b, x, position(b, 40), position(b, 48)),
-        PlaneEnd::At(e) => answered(b, 0, e, position(b, 48)),
-    }
-}
-
-// A preview: the rows of two planes.
-fn previewed(b: &Record, dc: &[u8]) -> bool {
-    let mut p0 = [b[1]; 280];
-    let mut p1 = [b[1]; 280];
-    let r = preview(call_of(b), rows8(b, 0, &mut p0), rows8(b, 1, &mut p1), dc);
-    same_preview(b, r) && same8(b, 0, &p0) && same8(b, 1, &p1)
-}
-
-// The answer to a report.
-fn same_report(b: &Record, r: PlaneEnd) -> bool {
-    match r {
-        PlaneEnd::Refused(x) => answered(b, x, position(b, 40), position(b, 48)),
-        PlaneEnd::At(e) => answered(b, 0, position(b, 40), e),
-    }
-}
-
-// A report: one plane's rows.
-fn reported(b: &Record, ac: &[u8]) -> bool {
-    let mut p = [b[1]; 280];
-    let r = block_report(call_of(b), rows8(b, 0, &mut p), ac);
-    same_report(b, r) && same8(b, 0, &p)
-}
-
-// The call that the record names, on these streams.
-fn called(b: &Record, dc: &[u8], ac: &[u8]) -> bool {
-    match b[0] {
-        0 => plane8(b, dc, ac),
-        1 => plane10(b, dc, ac),
-        2 => slice8(b, dc, ac),
-        3 => slice10(b, dc, ac),
-        4 => previewed(b, dc),
-        _ => reported(b, ac),
-    }
-}
-
-// The longest stream that may be read, or a byte more.
-fn longest(n: usize, more: bool) -> usize
-    requires { n < 1000000 }
-{
-    if more { n + 1 } else { n }
-}
-
-fn on_ones(b: &Record, ones: &[u8; ONES], d: usize, a: usize) -> bool {
-    called(b, part(ones, 0, d), part(ones, 0, a))
-}
-
-// Streams of ones, as long as may be read, or with a byte more.
-fn on_long(b: &Record) -> bool {
-    let ones = [255u8; ONES];
-    on_ones(
-        b,
-        &ones,
-        longest(LONGEST_DC, b[3] == 2),
-        longest(LONGEST_AC, b[3] == 3),
-    )
-}
-
-pub fn holds(b: &Record) -> bool {
-    if b[3] == 0 {
-        called(b, dc_of(b), ac_of(b))
-    } else {
-        on_long(b)
+pub fn holds(record: Record<'_>) -> bool {
+    let call = Call { record };
+    match record.byte(3) {
+        0 => {
+            let dc = record.part(72, record.size(10));
+            let ac = record.part(96, record.size(12));
+            Reading { call, dc, ac }.holds()
+        }
+        ones => holds_on_ones(call, ones == 2, ones == 3),
     }
 }

@@ -2,15 +2,17 @@
 use mathlib.Core.Path.{◌≡◌, refl, sym, ap, ◌∙◌}
 use mathlib.Core.Bool.{Bool, true, false}
 use mathlib.Core.List.{List}
-use Prim.Native.Nat.{ℕ, zero, suc, ◌+◌, ◌-◌, ◌*◌, ◌/◌, ◌%◌, ◌≤◌, ◌<◌}
+use Prim.Native.Nat.{ℕ, ◌+◌, ◌-◌, ◌*◌, ◌/◌, ◌%◌, ◌≤◌, ◌<◌}
 use native.Mathlib.Omega.{arith}
 use native.Mathlib.Nat.{le-div_iff_mul-le, add-mul, one-mul, mul_left_comm}
 use lib.Dec.{leb, ltb, eqb}
-use lib.ListN.{length}
-use borrow.Author.Tests.{lt-ltb, le-ltb, le-leb, leb-true, leb-false, ltb-true, ltb-false, eq-eqb, ne_eqb}
-use Rattle.ask.specs.Ask.{refused, accepted, first_no, asked}
+use lib.ListN.{length, take, drop}
+use Rattle.std.proofs.Common.{Bor}
+use borrow.Author.Tests.{lt-ltb, le-ltb, le-leb, leb-true, leb-false, ltb-true, ltb-false}
+use Rattle.ask.specs.Ask.{accepted, first_no}
+use Rattle.ask.proofs.Asked.{asked_yes}
 use Rattle.ask.specs.Limits.{stride_ok, rows_high, stride_max}
-use Rattle.shown.specs.Shown.{up_to_end, shown_questions, shown_of, slice_rows}
+use Rattle.shown.specs.Shown.{up_to_end, shown_questions, shown_of, slice_rows, picked, was_accepted}
 
 -- ---- a picture reaches the slice's end: by division
 samples_of_lem : (slice stride : ℕ) → up_to_end stride slice ≡ rows_high * ((slice + 1) * stride)
@@ -63,7 +65,7 @@ pub record Shows (stride slice new held : ℕ) : Type 0 where
 end_is : (slice s : ℕ) → (slice + 1) * s ≡ slice * s + s
 end_is slice s = add-mul slice 1 s ∙ ap (λ (x : ℕ). slice * s + x) (one-mul s)
 
-pub shows : (stride slice new held : ℕ) → first_no (shown_questions stride slice new held) ≡ 0 → Shows stride slice new held
+pub shows : (stride slice new held : ℕ) → 0 ≡ first_no (shown_questions stride slice new held) → Shows stride slice new held
 unfolding shown_questions first_no
 shows stride slice new held e = go (stride_ok stride) refl (leb (up_to_end stride slice) new) refl (leb (up_to_end stride slice) held) refl
   where
@@ -81,20 +83,27 @@ shows stride slice new held e = go (stride_ok stride) refl (leb (up_to_end strid
         }
 
 -- ---- the answer
-module _ (stride slice verdict : ℕ) (new held : List ℕ) where
-  pub shown_no : {n : ℕ} → n ≡ first_no (shown_questions stride slice (length new) (length held)) → 0 < n → shown_of stride slice verdict new held ≡ refused n
-  unfolding shown_of asked
-  shown_no {n = zero} e k = absurd (omega arith)
-  shown_no {n = suc n} e k = rw (← e)
-
-  module _ (e : first_no (shown_questions stride slice (length new) (length held)) ≡ 0) where
-    pub shown_new : verdict ≡ 0 → shown_of stride slice verdict new held ≡ accepted (slice_rows stride slice new)
-    unfolding shown_of asked
-    shown_new k = rw (e, eq-eqb verdict 0 k)
-
-    pub shown_held : (verdict ≡ 0 → ⊥) → shown_of stride slice verdict new held ≡ accepted (slice_rows stride slice held)
-    unfolding shown_of asked
-    shown_held k = rw (e, ne_eqb verdict 0 k)
-
 pub part_size : (p n : ℕ) → p + n - p ≡ n
 part_size p n = omega arith
+
+module _ {A : Type 0} (stride slice verdict : ℕ) (new held : Bor (List A)) (e : 0 ≡ first_no (shown_questions stride slice (length new.now) (length held.now))) where
+  pub in_picture : {p : Bor (List A)} → p ≡ picked (was_accepted verdict) new held → slice * (16 * stride) + 16 * stride ≤ length p.now
+  in_picture f = rw f (go (was_accepted verdict))
+    where
+      go : (b : Bool) → slice * (16 * stride) + 16 * stride ≤ length (picked b new held).now
+      go true = (shows stride slice (length new.now) (length held.now) e).in_new
+      go false = (shows stride slice (length new.now) (length held.now) e).in_held
+
+  picked_now : (b : Bool) {p : Bor (List A)} → p ≡ picked b new held → p.now ≡ picked b new.now held.now
+  picked_now true f = rw f
+  picked_now false f = rw f
+
+  pub shown : {p : Bor (List A)} → p ≡ picked (was_accepted verdict) new held
+      → accepted (take (slice * (16 * stride) + 16 * stride - slice * (16 * stride)) (drop (slice * (16 * stride)) p.now)) ≡ shown_of stride slice verdict new.now held.now
+  unfolding shown_of
+  shown f =
+      rw (
+        asked_yes _ (accepted (slice_rows stride slice (picked (was_accepted verdict) new.now held.now))) e,
+        part_size (slice * (16 * stride)) (16 * stride),
+        picked_now (was_accepted verdict) f,
+      )

@@ -11,7 +11,7 @@ slice_samples stride = rows_needed stride
 abbrev pub was_accepted : ℕ → Bool
 was_accepted verdict = eqb verdict 0
 
-abbrev pub picked : Bool → List ℕ → List ℕ → List ℕ
+abbrev pub picked : {A : Type 0} → Bool → A → A → A
 picked true new held = new
 picked false new held = held
 
@@ -29,10 +29,10 @@ shown_questions stride slice new held =
     ask (stride_ok stride) no_stride ∷ ask (both_reach stride slice new held) no_rows ∷ ask (ltb slice slices_max) no_turn ∷ []
 
 -- the slice's 16 rows
-abbrev pub slice_rows : ℕ → ℕ → List ℕ → List ℕ
+abbrev pub slice_rows : {A : Type 0} → ℕ → ℕ → List A → List A
 slice_rows stride slice picture = take (slice_samples stride) (drop (slice * slice_samples stride) picture)
 
-unfoldable pub shown_of : ℕ → ℕ → ℕ → List ℕ → List ℕ → Answer (List ℕ)
+unfoldable pub shown_of : {A : Type 0} → ℕ → ℕ → ℕ → List A → List A → Answer (List A)
 shown_of stride slice verdict new held =
     asked (shown_questions stride slice (length new) (length held))
     (accepted (slice_rows stride slice (picked (was_accepted verdict) new held)))

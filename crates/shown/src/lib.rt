@@ -4,15 +4,13 @@
 // picture, any other out of the held one: old and new blocks never stand side by side under one time.
 #![tactic(auto)]
 
-pub mod eight;
-pub mod ten;
-
 ghost use Rattle.std.specs.Prelude.{◌≡◌, leb};
 ghost use Rattle.ask.specs.Ask.{first_no};
-ghost use Rattle.shown.specs.Shown.{up_to_end, shown_questions, time_of};
+ghost use Rattle.ask.specs.Refusals.{answer, given};
+ghost use Rattle.shown.specs.Shown.{up_to_end, shown_questions, shown_of, picked, was_accepted, time_of};
 
 use ask::limits::{ROWS, SLICES_MAX};
-use ask::numbers::{NO_ROWS, NO_STRIDE, NO_TURN};
+use ask::{Refusal, ask};
 
 // Whether a picture of n samples reaches the end of the slice. Compared by division: no product overflows.
 fn reaches(n: usize, stride: usize, slice: usize) -> bool
@@ -24,22 +22,47 @@ fn reaches(n: usize, stride: usize, slice: usize) -> bool
     slice < n / ROWS / stride
 }
 
-// The first "no" among the questions, 0 where there is none; the pictures have so many samples.
-pub fn shown_number(new: usize, held: usize, stride: usize, slice: usize) -> u32
-    ensures { result ≡ first_no (shown_questions stride slice new held) }
+// The questions in their order; the pictures have so many samples.
+#[tactic(auto, unfolding(crate::specs::Shown::shown_questions, ask::specs::Ask::first_no))]
+pub fn shown_asked(new: usize, held: usize, stride: usize, slice: usize) -> Result<(), Refusal>
+    ensures { given result ≡ first_no (shown_questions stride slice new held) }
 {
-    let in_new = reaches(new, stride, slice);
-    let in_held = reaches(held, stride, slice);
-    let rows = ask::both(in_new, in_held);
-    let strides = ask::stride_ok(stride);
-    let from_turn = ask::or_else(slice < SLICES_MAX, NO_TURN, 0);
-    let from_rows = ask::or_else(rows, NO_ROWS, from_turn);
-    ask::or_else(strides, NO_STRIDE, from_rows)
+    ask(ask::stride_ok(stride), Refusal::Stride)?;
+    ask(
+        reaches(new, stride, slice) && reaches(held, stride, slice),
+        Refusal::Rows,
+    )?;
+    ask(slice < SLICES_MAX, Refusal::Turn)
+}
+
+// The new one if the slice was accepted, the held one if not.
+fn picked<T: Copy>(new: T, held: T, verdict: u32) -> T
+    ensures { result ≡ picked (was_accepted verdict) new held }
+{
+    if verdict == 0 { new } else { held }
+}
+
+// The slice's sixteen rows, out of the new picture if it was accepted, out of the held one if not.
+pub fn shown_rows<'a, T>(
+    new: &'a [T],
+    held: &'a [T],
+    stride: usize,
+    slice: usize,
+    verdict: u32,
+) -> Result<&'a [T], Refusal>
+    ensures { answer (λ part. part.now) result ≡ shown_of stride slice verdict new.now held.now }
+{
+    shown_asked(new.len(), held.len(), stride, slice)?;
+    let n = ROWS * stride;
+    let start = slice * n;
+    let picture = picked(new, held, verdict);
+    Ok(&picture[start..start + n])
 }
 
 // The time that is shown: the new one if the slice was accepted, the held one if not.
+#[tactic(auto, unfolding(crate::specs::Shown::time_of))]
 pub fn shown_time(new: u64, held: u64, verdict: u32) -> u64
     ensures { result ≡ time_of verdict new held }
 {
-    if verdict == 0 { new } else { held }
+    picked(new, held, verdict)
 }

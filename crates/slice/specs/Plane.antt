@@ -1,6 +1,7 @@
 -- A plane's coefficients, and the rows made from what was read. Document 01, 'Plane and slice'.
 use Rattle.std.specs.Prelude.{Bool, true, false, cond, List, [], ◌∷◌, ◌++◌, map, ℕ, zero, suc, ◌+◌, ◌*◌, ◌/◌, ◌%◌, ℤ, pos, ltb, get_or, replicate}
 use Rattle.scalar.specs.Tab.{tab}
+pub use Rattle.sample.specs.Numbers.{lane_of}
 use Rattle.fdct.specs.Forward.{forward_of}
 use Rattle.quant.specs.Quantise.{quantise_of, scan_of, natural_of, dequantise_of}
 use Rattle.idct.specs.Inverse.{inverse_of, samples_of}
@@ -17,11 +18,6 @@ sample_index stride row column = row * stride + column
 
 abbrev pub sample_at : Plane → ℕ → ℕ → ℕ
 sample_at p row column = get_or p.samples (sample_index p.stride row column) 0
-
--- "A u8 sample is its own lane; a u16 sample's lane is the sample shifted right by 6."
-abbrev pub lane_of : Depth → ℕ → ℤ
-lane_of eight x = pos x
-lane_of ten x = pos (x / 64)
 
 -- the block that the sample at i lies in, blocks "left to right, upper eight rows first", and its place among that block's 64
 abbrev pub block_at : ℕ → ℕ → ℕ

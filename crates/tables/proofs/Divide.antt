@@ -1,7 +1,7 @@
 -- Rounded division as two high multiplies: the law, for every divisor and every multiplier.
-use mathlib.Core.Path.{◌≡◌, sym, ◌∙◌, subst, ap}
-use Prim.Native.Nat.{ℕ, zero, suc, ◌+◌, ◌-◌, ◌*◌, ◌/◌, ◌≤◌, ◌<◌}
-use native.Mathlib.Nat.{le_refl, le_trans, le_of_eq, lt_of_lt_of_le, lt_of_le_of_lt, lt-suc_self, add-lt-add_of_le_of_lt, mul_right_comm, mul_assoc, mul_comm, mul-add, add-mul, suc-mul, mul-le-mul_left, mul-le-mul_right, mul-lt-mul_of_pos_right, le_of_mul-le-mul_right, lt_of_mul-lt-mul_right, div-mul-le_self, div-lt_iff_lt-mul, div-eq_of_lt-le, div-div-eq-div-mul, mul-div-mul_right, mul-pos}
+use mathlib.Core.Path.{◌≡◌, sym, ◌∙◌, subst}
+use Prim.Native.Nat.{ℕ, zero, suc, ◌+◌, ◌*◌, ◌/◌, ◌≤◌, ◌<◌}
+use native.Mathlib.Nat.{le_trans, le_of_eq, lt-suc_self, mul_right_comm, mul_assoc, mul-add, suc-mul, mul-le-mul_right, le_of_mul-le-mul_right, lt_of_mul-lt-mul_right, div-mul-le_self, div-lt_iff_lt-mul, div-eq_of_lt-le, div-div-eq-div-mul, mul-div-mul_right, mul-pos}
 use native.Mathlib.Numerals.{add-one}
 use native.Mathlib.Omega.{arith}
 

@@ -1,3 +1,4 @@
+pub mod Made
 pub mod Every
 pub mod Divide
 pub mod Rule

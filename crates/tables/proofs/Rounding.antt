@@ -1,11 +1,11 @@
 -- The rounded-division rule: one test that antt computes over all 1,600 entries, and what follows for each.
-use mathlib.Core.Path.{◌≡◌, sym, ◌∙◌, subst}
+use mathlib.Core.Path.{◌≡◌}
 use mathlib.Core.Bool.{Bool}
 use Prim.Native.Nat.{ℕ, zero, suc, ◌+◌, ◌*◌, ◌/◌, ◌≤◌, ◌<◌}
 use native.Mathlib.Nat.{div-lt_iff_lt-mul, le_of_suc-le-suc}
 use native.Mathlib.Omega.{arith}
 use lib.Count.{count_leading_zeros}
-use lib.Dec.{T, leb, ltb, leb→le, ltb→lt}
+use lib.Dec.{T, ltb, ltb→lt}
 use Rattle.tables.specs.Divisor.{base_matrix, quality_factors, divisor}
 use Rattle.tables.specs.Reciprocal.{shift_of, correction_of, reciprocal_of, scale_of, two_high, rounded}
 use Rattle.tables.specs.Entries.{number_for, number_at, correction_at, reciprocal_at, scale_at}

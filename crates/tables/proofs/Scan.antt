@@ -3,7 +3,7 @@ use mathlib.Core.Path.{◌≡◌, refl}
 use mathlib.Core.Bool.{Bool}
 use Prim.Native.Nat.{ℕ, ◌<◌}
 use lib.Dec.{T, eqb, ltb, eqb→eq, ltb→lt}
-use lib.ListN.{length, get_or}
+use lib.ListN.{length}
 use Rattle.tables.specs.Zigzag.{zigzag, unzigzag, zigzag_at, unzigzag_at}
 use Rattle.tables.proofs.Every.{both, both_left, both_right, every_from, every}
 

@@ -3,7 +3,7 @@ use mathlib.Core.Path.{◌≡◌, refl}
 use lib.Count.{count_leading_zeros}
 use Rattle.tables.specs.Divisor.{quality_factors}
 use Rattle.tables.specs.Reciprocal.{shift_of, correction_of, reciprocal_of, scale_of}
-use Rattle.tables.specs.Quality.{Chosen, choose_from, quality_preset}
+use Rattle.tables.specs.Quality.{choose_from, quality_preset}
 
 -- "16 gives 8, 32768, 8192."
 pub sixteen : (correction_of 16 ≡ 8) × ((reciprocal_of 16 ≡ 32768) × (scale_of 16 ≡ 8192))

@@ -1,5 +1,5 @@
 -- The preset of a quality (`quality_preset` of layout.rs). Document 01: "quality_preset is taken for 0 to 255."
-use Rattle.std.specs.Prelude.{Bool, true, false, List, [], ◌∷◌, ℕ, zero, suc, ◌+◌, ◌-◌, leb}
+use Rattle.std.specs.Prelude.{Bool, true, false, List, [], ◌∷◌, ℕ, suc, ◌+◌, ◌-◌, leb}
 use Rattle.tables.specs.Divisor.{quality_factors}
 
 -- the quality that is in force, and its preset

@@ -1,5 +1,5 @@
 -- The three numbers of a divisor, as `reciprocal` of dct.rs computes them, and what the two high multiplies make of them.
-use Rattle.std.specs.Prelude.{Bool, true, false, ℕ, zero, suc, ◌+◌, ◌-◌, ◌*◌, ◌/◌, ◌%◌, ◌^◌, eqb, leb}
+use Rattle.std.specs.Prelude.{Bool, true, false, ℕ, ◌+◌, ◌-◌, ◌*◌, ◌/◌, ◌%◌, ◌^◌, eqb, leb}
 use Rattle.std.specs.Int.Count.{count_leading_zeros}
 
 abbrev pub pickℕ : Bool → ℕ → ℕ → ℕ

@@ -11,6 +11,8 @@ ghost use Rattle.tables.specs.Divisor.{divisors_of};
 ghost use Rattle.tables.specs.Zigzag.{zigzag};
 ghost use Rattle.tables.specs.Quality.{quality_preset};
 
+use std::array::from_fn;
+
 // The 64 divisors of a preset, natural order (`decode` of QuantTables).
 pub fn decode_numbers(preset: usize) -> [u16; 64]
     requires { preset < 25 }
@@ -18,11 +20,7 @@ pub fn decode_numbers(preset: usize) -> [u16; 64]
 {
     let b = divisors::base_matrix();
     let f = divisors::quality_factors();
-    let mut d = [0u16; 64];
-    for y in 0..64 {
-        d[y] = divisors::divisor(&b, &f, preset, y);
-    }
-    d
+    from_fn(|y| divisors::divisor(&b, &f, preset, y))
 }
 
 const ZIGZAG: [u8; 64] = [

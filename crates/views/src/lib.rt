@@ -4,51 +4,46 @@
 pub mod both;
 pub mod walk;
 
-ghost use Rattle.std.specs.Prelude.{◌≡◌, ◌∷◌, ◌*◌, ◌≤◌, leb};
+ghost use Rattle.std.specs.Prelude.{◌≡◌, ◌∷◌, ◌*◌, ◌≤◌, leb, length, IfOk};
 ghost use Rattle.ask.specs.Ask.{first_no};
-ghost use Rattle.ask.specs.Limits.{height_max};
+ghost use Rattle.ask.specs.Refusals.{given};
 ghost use Rattle.layout.specs.Geometry.{size_question, slice_count};
 ghost use Rattle.parser.specs.head.Header.{header_questions};
 ghost use Rattle.parser.specs.Views.{frame_says};
 ghost use Rattle.views.specs.Table.{table_question, views_as, all_views_of};
 
-use crate::both::Walked;
-use ask::numbers::{NO_ROWS, NO_SIZE};
-use parser::FrameAnswer;
+use ask::{Refusal, ask};
+use layout::FrameSize;
+use parser::head::Header;
 
 // Whether the table has two numbers for each stream, four for each slice.
-fn table_ok(height: usize, room: usize) -> bool
-    requires { height ≤ height_max }
-    ensures { result ≡ leb (4 * slice_count height) room }
+fn table_ok(size: FrameSize, room: usize) -> bool
+    ensures { result ≡ leb (4 * slice_count size.height) room }
 {
-    let n = 4 * layout::slice_count(height);
-    n <= room
+    4 * layout::slice_count(size.height) <= room
 }
 
-// The first "no" among question 9, the table's question and those about the header, 0 where there is none.
-fn views_number(width: usize, height: usize, frame: &[u8], room: usize) -> u32
-    ensures { result ≡ first_no (size_question width height ∷ table_question height room ∷ header_questions width height frame.now) }
+// Question 9, the table's question and those about the header; the frame's size.
+#[tactic(auto, unfolding(ask::specs::Ask::first_no))]
+fn views_asked(width: usize, height: usize, frame: &[u8], room: usize) -> Result<FrameSize, Refusal>
+    ensures asked { given result ≡ first_no (size_question width height ∷ table_question height room ∷ header_questions width height frame.now) }
+    ensures legal { IfOk result (λ size. (size.width ≡ width) × (size.height ≡ height) × (5 ≤ length frame.now)) }
 {
-    let size = layout::size_ok(width, height);
-    if size {
-        let table = table_ok(height, room);
-        let from_header = parser::head::header_number(width, height, frame);
-        return ask::or_else(table, NO_ROWS, from_header);
-    }
-    NO_SIZE
+    let size = FrameSize::new(width, height)?;
+    ask(table_ok(size, room), Refusal::Rows)?;
+    parser::head::header_asked(width, height, frame)
 }
 
 // All views of a frame into the table, and what its header says.
-pub fn all_views(width: usize, height: usize, frame: &[u8], table: &mut [u32]) -> FrameAnswer
+pub fn all_views(
+    width: usize,
+    height: usize,
+    frame: &[u8],
+    table: &mut [u32],
+) -> Result<Header, Refusal>
     ensures { views_as (frame_says result) table.new ≡ all_views_of width height frame.now table.old }
 {
-    let x = views_number(width, height, frame, table.len());
-    if 0 < x {
-        return FrameAnswer::Refused(x);
-    }
-    match crate::both::walk_any(width, height, frame, table) {
-        Walked::Refused(x) => FrameAnswer::Refused(x),
-        Walked::DcOnly => FrameAnswer::Frame(parser::head::header_of(height, frame, false)),
-        Walked::Both => FrameAnswer::Frame(parser::head::header_of(height, frame, true)),
-    }
+    let size = views_asked(width, height, frame, table.len())?;
+    let ac = both::walk_any(size, frame, table)?;
+    Ok(parser::head::header_of(size.height, frame, ac))
 }

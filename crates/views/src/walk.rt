@@ -2,7 +2,7 @@
 //
 // What stood in the table is held, and put back where a stream is refused: so one walk is enough, and a refused frame
 // leaves the table as it was.
-use parser::streams::Place;
+use ask::Refusal;
 
 pub mod table;
 
@@ -23,31 +23,29 @@ pub fn walk_views(
     from: usize,
     table: &mut [u32],
     held: &[u32],
-) -> Place
+) -> Result<usize, Refusal>
     requires { Walks f.now n limit p from table.old held.now }
     ensures { (place_says result ≡ streams n limit f.now p)
         × (table.new ≡ walk_left (streams n limit f.now p) table.old held.now from n
         (views_of (λ i. nth_stream i limit f.now p) n)) }
 {
     let mut at = p;
-    let mut k = 0;
-    while k < n {
+    for k in 0..n {
         match parser::streams::one_stream(f, limit, at) {
-            Place::At(q) => {
+            Ok(end) => {
                 table::put_view(
                     table,
                     2 * (from + k),
                     (at + 4) as u32,
-                    (q - (at + 4)) as u32,
+                    (end - (at + 4)) as u32,
                 );
-                at = q;
+                at = end;
             }
-            Place::Refused(x) => {
+            Err(no) => {
                 table::copy(table, held, 2 * (from + n));
-                return Place::Refused(x);
+                return Err(no);
             }
         }
-        k += 1;
     }
-    Place::At(at)
+    Ok(at)
 }

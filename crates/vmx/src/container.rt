@@ -16,8 +16,8 @@ ghost use Rattle.outs.specs.frame.Outs.{build_places, build_parts};
 ghost use Rattle.vmx.specs.Frames.{state_of, shown_at, shown_places, shown_parts, nothing_shown, streams_as, streams_by};
 
 use ask::limits::ROWS;
-use builder::{Builder, Shift};
-use layout::Layout;
+use builder::Builder;
+use layout::{FrameSize, Layout};
 
 // The geometry of a frame size: strides in samples, stream limits in bytes.
 pub fn vmx_layout(
@@ -53,12 +53,13 @@ pub fn vmx_layout(
 pub fn vmx_interlace_capable(width: usize, height: usize, capable: &mut u32) -> u32
     ensures { handed result capable.new ≡ handed_by (interlace_capable_of width height) flag_of capable.old }
 {
-    let x = layout::size_number(width, height);
-    if 0 < x {
-        return x;
+    match FrameSize::new(width, height) {
+        Err(no) => no.number(),
+        Ok(size) => {
+            *capable = outs::frame::flag(layout::interlace_capable(size.height));
+            0
+        }
     }
-    *capable = outs::frame::flag(layout::interlace_capable(height));
-    0
 }
 
 // Whether a coded row is a row of the image (1) or padding (0), and which one; of padding nothing is said.
@@ -74,13 +75,14 @@ pub fn vmx_image_row(
         ≡ handed_by (layout_row width height r (is_on interlaced)) (row_parts row.old)
         (row_places there.old row.old) }
 {
-    let x = layout::size_number(width, height);
-    if 0 < x {
-        return x;
+    match FrameSize::new(width, height) {
+        Err(no) => no.number(),
+        Ok(size) => {
+            let a = layout::image_row(size.height, r, 0 < interlaced);
+            *there = outs::frame::row_out(a, row);
+            0
+        }
     }
-    let a = layout::image_row(height, r, 0 < interlaced);
-    *there = outs::frame::row_out(a, row);
-    0
 }
 
 // The width and the height of the 1/8 preview.
@@ -95,13 +97,14 @@ pub fn vmx_preview_size(
         ≡ handed_by (preview_size_of width height (is_on interlaced)) preview_parts
         (preview_places preview_width.old preview_height.old) }
 {
-    let x = layout::size_number(width, height);
-    if 0 < x {
-        return x;
+    match FrameSize::new(width, height) {
+        Err(no) => no.number(),
+        Ok(size) => {
+            *preview_width = layout::preview_width(size.width);
+            *preview_height = layout::preview_height(size.height, 0 < interlaced);
+            0
+        }
     }
-    *preview_width = layout::preview_width(width);
-    *preview_height = layout::preview_height(height, 0 < interlaced);
-    0
 }
 
 // The quality that is in force for a quality asked, and its preset.
@@ -194,7 +197,7 @@ pub fn vmx_frame_start(
         height,
         0 < interlaced,
         quality,
-        Shift::Named(dc_shift),
+        Some(dc_shift),
         out,
         start,
     );
@@ -258,17 +261,20 @@ pub fn vmx_shown_rows(
     ensures { handed result (shown_places from_new.new offset.new len.new)
         ≡ handed_by (shown_at stride slice verdict new held) shown_parts (nothing_shown from_new.old) }
 {
-    let x = shown::shown_number(new, held, stride, slice);
-    if 0 < x {
-        *offset = 0;
-        *len = 0;
-        return x;
+    match shown::shown_asked(new, held, stride, slice) {
+        Err(no) => {
+            *offset = 0;
+            *len = 0;
+            no.number()
+        }
+        Ok(()) => {
+            let n = ROWS * stride;
+            *from_new = outs::frame::from_new(verdict);
+            *offset = slice * n;
+            *len = n;
+            0
+        }
     }
-    let n = ROWS * stride;
-    *from_new = outs::frame::from_new(verdict);
-    *offset = slice * n;
-    *len = n;
-    0
 }
 
 // The time that is shown: the new one if the slice was accepted, the held one if not.

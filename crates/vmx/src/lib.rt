@@ -1,5 +1,5 @@
 // VMX planes, slice streams and frames: the calls for programs in C, C++ and Rust (include/vmx.h), which the crate vmx_c exports.
-#![tactic(auto)]
+#![tactic(auto, using(calls::proofs::Told::handed_out))]
 
 pub mod container;
 pub mod eight;

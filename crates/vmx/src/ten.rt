@@ -2,6 +2,8 @@
 //
 // A call answers document 01's number, 0 where it is accepted. The positions are read from the places lent for them and left
 // there: after what was written or read, or as they were given. A refused call leaves buffers and rows as they were.
+//
+// Each stands again in eight.rt, on the other samples: C has a function for each depth. The calls below are generic.
 ghost use Rattle.std.specs.Prelude.{◌≡◌, [], ◌∷◌};
 ghost use Rattle.calls.specs.Arguments.{ten, settings, plane, rows, buffers, positions};
 ghost use Rattle.slice.specs.Calls.{encode_plane, encode_slice, decode_plane, decode_slice};
@@ -31,7 +33,7 @@ pub fn vmx_encode_plane10(
     };
     let h = Shape { place, stride };
     let s = Settings { preset, shift };
-    let r = encoder::ten::encode_plane(rows, h, s, dc, ac, at);
+    let r = encoder::encode_plane(rows, h, s, dc, ac, at);
     outs::plane::coded_out(r, dc_at, ac_at)
 }
 
@@ -67,7 +69,7 @@ pub fn vmx_encode_slice10(
         strides: [stride0, stride1, stride2, stride3],
     };
     let s = Settings { preset, shift };
-    let r = encoder::ten::encode_slice(p0, p1, p2, p3, f, s, dc, ac, at);
+    let r = encoder::encode_slice(p0, p1, p2, p3, f, s, dc, ac, at);
     outs::plane::coded_out(r, dc_at, ac_at)
 }
 
@@ -93,7 +95,7 @@ pub fn vmx_decode_plane10(
     };
     let h = Shape { place, stride };
     let s = Settings { preset, shift };
-    let r = decoder::ten::decode_plane(rows, h, s, dc, ac, at);
+    let r = decoder::decode_plane(rows, h, s, dc, ac, at);
     outs::plane::read_out(r, dc_at, ac_at)
 }
 
@@ -130,6 +132,6 @@ pub fn vmx_decode_slice10(
         strides: [stride0, stride1, stride2, stride3],
     };
     let s = Settings { preset, shift };
-    let r = decoder::ten::decode_slice(p0, p1, p2, p3, f, s, dc, ac, at);
+    let r = decoder::decode_slice(p0, p1, p2, p3, f, s, dc, ac, at);
     outs::plane::read_out(r, dc_at, ac_at)
 }

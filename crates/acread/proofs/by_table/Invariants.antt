@@ -1,6 +1,6 @@
 -- `acread::by_table`: the loop over looks.
 use mathlib.Core.Path.{◌≡◌}
-use Prim.Native.Nat.{◌+◌, ◌-◌, ◌^◌, ◌≤◌, ◌<◌}
+use Prim.Native.Nat.{◌+◌, ◌^◌, ◌≤◌, ◌<◌}
 use Rattle.acread.specs.Going.{Onward}
 use Rattle.acread.proofs.by_table.Given as goal
 

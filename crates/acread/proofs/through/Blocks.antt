@@ -1,11 +1,11 @@
 -- One block more of a plane.
 use mathlib.Core.Path.{◌≡◌, refl, sym, ap, ap₂, ◌∙◌}
 use mathlib.Core.Bool.{Bool, true, false, not, cond}
-use mathlib.Core.List.{List, [], ◌∷◌, map}
-use Prim.Native.Nat.{ℕ, zero, suc, ◌+◌, ◌-◌, ◌*◌, ◌≤◌, ◌<◌}
+use mathlib.Core.List.{[], ◌∷◌}
+use Prim.Native.Nat.{ℕ, suc}
 use native.Mathlib.Omega.{arith}
 use lib.Dec.{ltb}
-use Rattle.ask.specs.Ask.{Answer, refused, accepted}
+use Rattle.ask.specs.Ask.{refused, accepted}
 use Rattle.bits.specs.Bits.{Stream, bytes_for}
 use Rattle.calls.specs.ReadPlane.{Places, bad_places, places, read_places, BlockRead, Blocks, bad_blocks, blocks, block_then, by_places, read_blocks}
 use Rattle.acread.specs.Block.{Ends, bad_ends, ends, ends_of}
@@ -71,15 +71,6 @@ end_at bad_blocks q r e = absurd (never e)
 end_at (blocks bs a b) q r e =
     let g : q ≡ a = cc in
     ap (λ (n : ℕ). accepted (bytes_for n)) g
-
-pub good_end : (x : Blocks) {q : ℕ} → accepted q ≡ ac_end x → good_ends (block_ends x) ≡ true
-good_end bad_blocks e = absurd (let z : ◌≡◌ {A = ℕ} 0 1 = cc in omega arith)
-good_end (blocks bs q r) e = refl
-
--- the verdict by the answer of a read-through
-pub bad_end : (x : Blocks) {n : ℕ} → refused n ≡ ac_end x → good_ends (block_ends x) ≡ false
-bad_end bad_blocks e = refl
-bad_end (blocks bs q r) e = absurd (let z : ◌≡◌ {A = ℕ} 0 1 = cc in omega arith)
 
 pub not_good : (x : Blocks) → good_ends (block_ends x) ≡ false → refused no_code ≡ ac_end x
 not_good bad_blocks e = refl

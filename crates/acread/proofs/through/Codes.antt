@@ -1,14 +1,14 @@
 -- One DC code more of a plane.
 use mathlib.Core.Path.{◌≡◌, refl, sym, ap, ◌∙◌}
-use mathlib.Core.Bool.{Bool, true, false}
+use mathlib.Core.Bool.{true, false}
 use Prim.Native.Nat.{ℕ, zero, suc, ◌<◌}
 use native.Mathlib.Omega.{arith}
-use Rattle.ask.specs.Ask.{Answer, refused, accepted}
+use Rattle.ask.specs.Ask.{accepted}
 use Rattle.bits.specs.Bits.{Stream}
-use Rattle.bits.specs.Read.{DcCode, bad_dc, zero_step, step, read_dc}
+use Rattle.bits.specs.Read.{read_dc}
 use Rattle.bitreader.specs.Cursor.{dc_by}
 use Rattle.calls.specs.ReadPlane.{DcStep, DcSteps, bad_steps, dc_steps, step_then, by_dc_code, read_steps}
-use Rattle.acread.specs.through.Codes.{step_of, good_steps, dc_bit, dc_end}
+use Rattle.acread.specs.through.Codes.{step_of, good_steps, dc_bit}
 
 never : false ≡ true → ⊥
 never e = let z : ◌≡◌ {A = ℕ} 0 1 = cc in omega arith
@@ -62,16 +62,3 @@ module _ (s : Stream) (n p k h q : ℕ) (e : dc_by k h q ≡ read_dc s p) where
 pub none_bit : (s : Stream) (p : ℕ) → dc_bit (read_steps 0 s p) ≡ accepted p
 unfolding read_steps
 none_bit s p = refl
-
-pub good_bit : (x : DcSteps) {q : ℕ} → accepted q ≡ dc_bit x → good_steps x ≡ true
-good_bit bad_steps e = absurd (let z : ◌≡◌ {A = ℕ} 0 1 = cc in omega arith)
-good_bit (dc_steps ts q) e = refl
-
--- the verdict by the answer of a read-through
-pub good_end : (x : DcSteps) {q : ℕ} → accepted q ≡ dc_end x → good_steps x ≡ true
-good_end bad_steps e = absurd (let z : ◌≡◌ {A = ℕ} 0 1 = cc in omega arith)
-good_end (dc_steps ts q) e = refl
-
-pub bad_end : (x : DcSteps) {n : ℕ} → refused n ≡ dc_end x → good_steps x ≡ false
-bad_end bad_steps e = refl
-bad_end (dc_steps ts q) e = absurd (let z : ◌≡◌ {A = ℕ} 0 1 = cc in omega arith)

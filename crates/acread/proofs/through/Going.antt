@@ -1,20 +1,20 @@
 -- The loops over a plane's blocks: what is still to be read from here ends where the plane ends.
-use mathlib.Core.Path.{◌≡◌, refl, sym, ap, ap₂, subst, ◌∙◌}
+use mathlib.Core.Path.{◌≡◌, sym, ap, ap₂, subst, ◌∙◌}
 use mathlib.Core.Bool.{true}
-use mathlib.Core.List.{List, [], ◌∷◌, ◌++◌}
-use Prim.Native.Nat.{ℕ, zero, suc, ◌+◌, ◌-◌, ◌*◌, ◌^◌, ◌≤◌, ◌<◌}
+use mathlib.Core.List.{List, [], ◌∷◌}
+use Prim.Native.Nat.{ℕ, suc, ◌+◌, ◌*◌, ◌^◌, ◌≤◌, ◌<◌}
 use native.Mathlib.Nat.{add-zero}
 use native.Mathlib.Omega.{arith}
-use lib.ListN.{length, set, length-set}
+use lib.ListN.{length, set}
 use Rattle.bits.specs.Bits.{bit_at}
 use Rattle.bits.specs.Lay.{lay}
 use Rattle.bits.proofs.LayLaw.{lay_none, lay_set, lay_lay}
 use Rattle.bitreader.specs.Cursor.{At}
 use Rattle.bitreader.specs.declared.AcCursor.{AcCursor}
 use Rattle.calls.specs.ReadPlane.{read_places, read_blocks}
-use Rattle.acread.specs.Block.{Ends, bad_ends, ends, ends_of, BlockEnded, block_says}
+use Rattle.acread.specs.Block.{bad_ends, ends, ends_of, BlockEnded, block_says}
 use Rattle.acread.specs.declared.BlockEnd.{BlockEnd}
-use Rattle.acread.specs.declared.BlockEnd.TheVariants as block
+use Rattle.std.specs.Prelude.{Option, Some, None}
 use Rattle.acread.specs.Block.{flat_byte}
 use Rattle.acread.specs.through.Through.{block_ends, good_ends, reports_of}
 use Rattle.acread.proofs.through.Blocks.{block_next, report_next, block_bad, none_left, bad_good}
@@ -38,35 +38,35 @@ going_start s p n c a e =
 pub going_left : {s : List ℕ} {p n : ℕ} {c : AcCursor} {pending left : ℕ} (m : ℕ) → left ≡ m → Going s p n c pending left → Going s p n c pending m
 going_left {s} {p} {n} {c} {pending} m e i = subst (λ (x : ℕ). Going s p n c pending x) e i
 
-module _ (s : List ℕ) (p n : ℕ) (c : AcCursor) (pending m : ℕ) (i : Going s p n c pending (suc m)) (e : BlockEnd) (b : BlockEnded s c.pos pending e) where
-  ends_at : (d : AcCursor) (k : ℕ) → e ≡ block.At d k → ends_of (read_places 64 (bit_at s) c.pos pending) ≡ ends d.pos k
-  ends_at d k f = sym b.answer ∙ ap block_says f
+module _ (s : List ℕ) (p n : ℕ) (c : AcCursor) (pending m : ℕ) (i : Going s p n c pending (suc m)) (o : Option BlockEnd) (b : BlockEnded s c.pos pending o) where
+  ends_at : (e : BlockEnd) → o ≡ Some e → ends_of (read_places 64 (bit_at s) c.pos pending) ≡ ends e.c.pos e.pending
+  ends_at e f = sym b.answer ∙ ap block_says f
 
-  pub going_next : (d : AcCursor) (k : ℕ) → e ≡ block.At d k → Going s p n d k m
-  going_next d k f =
-      let r = b.ready d k f in
+  pub going_next : (e : BlockEnd) → o ≡ Some e → Going s p n e.c e.pending m
+  going_next e f =
+      let r = b.ready e f in
       record {
-        same = i.same ∙ block_next (bit_at s) m c.pos pending d.pos k (ends_at d k f);
+        same = i.same ∙ block_next (bit_at s) m c.pos pending e.c.pos e.pending (ends_at e f);
         holds = r.holds;
         near = omega (arith, r.near, i.near);
         few = r.few;
       }
 
-  pub going_bad : e ≡ block.Bad → block_ends (read_blocks n (bit_at s) p 0) ≡ bad_ends
+  pub going_bad : o ≡ None → block_ends (read_blocks n (bit_at s) p 0) ≡ bad_ends
   going_bad f = i.same ∙ block_bad (bit_at s) m c.pos pending (sym b.answer ∙ ap block_says f)
 
   -- one byte stored at j
-  pub stored : (d : AcCursor) (k : ℕ) → e ≡ block.At d k → good_ends (block_ends (read_blocks n (bit_at s) p 0)) ≡ true → (l : List ℕ) (j : ℕ) {v : ℕ} → j < length l → v ≡ flat_byte pending
-      → lay l j (reports_of (read_blocks (suc m) (bit_at s) c.pos pending)) ≡ lay (set l j v) (j + 1) (reports_of (read_blocks m (bit_at s) d.pos k))
-  stored d k f g l j {v} h w =
-      let rest = reports_of (read_blocks m (bit_at s) d.pos k) in
+  pub stored : (e : BlockEnd) → o ≡ Some e → good_ends (block_ends (read_blocks n (bit_at s) p 0)) ≡ true → (l : List ℕ) (j : ℕ) {v : ℕ} → j < length l → v ≡ flat_byte pending
+      → lay l j (reports_of (read_blocks (suc m) (bit_at s) c.pos pending)) ≡ lay (set l j v) (j + 1) (reports_of (read_blocks m (bit_at s) e.c.pos e.pending))
+  stored e f g l j {v} h w =
+      let rest = reports_of (read_blocks m (bit_at s) e.c.pos e.pending) in
       let one : set l j v ≡ lay l j (v ∷ []) =
       ap₂ (λ (x : List ℕ) (y : ℕ). set x y v) (sym (lay_none l j)) (sym (add-zero j)) ∙ lay_set l j [] (omega arith) v (omega arith) in
-      let ok : good_ends (block_ends (read_blocks m (bit_at s) d.pos k)) ≡ true = ap good_ends (sym (going_next d k f).same) ∙ g in
-      ap (lay l j) (report_next (bit_at s) m c.pos pending d.pos k (ends_at d k f) ok) ∙ ap (λ (x : ℕ). lay l j (x ∷ rest)) (sym w)
+      let ok : good_ends (block_ends (read_blocks m (bit_at s) e.c.pos e.pending)) ≡ true = ap good_ends (sym (going_next e f).same) ∙ g in
+      ap (lay l j) (report_next (bit_at s) m c.pos pending e.c.pos e.pending (ends_at e f) ok) ∙ ap (λ (x : ℕ). lay l j (x ∷ rest)) (sym w)
       ∙ sym (ap (λ (x : List ℕ). lay x (j + 1) rest) one ∙ lay_lay l j (v ∷ []) (omega arith) rest)
 
-  pub not_bad : e ≡ block.Bad → good_ends (block_ends (read_blocks n (bit_at s) p 0)) ≡ true → ⊥
+  pub not_bad : o ≡ None → good_ends (block_ends (read_blocks n (bit_at s) p 0)) ≡ true → ⊥
   not_bad f g = bad_good (going_bad f) g
 
 pub going_over : (s : List ℕ) (p n : ℕ) (c : AcCursor) (pending left : ℕ) → left ≡ 0 → Going s p n c pending left → block_ends (read_blocks n (bit_at s) p 0) ≡ ends c.pos pending

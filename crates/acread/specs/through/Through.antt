@@ -1,12 +1,12 @@
 -- What reading a plane's AC stream finds, without the coefficients. Document 01, 'Plane and slice'.
-use Rattle.std.specs.Prelude.{Bool, true, false, List, [], map, ℕ}
+use Rattle.std.specs.Prelude.{Bool, true, false, List, [], map, ℕ, Result}
 use Rattle.ask.specs.Ask.{Answer, refused, accepted}
 use Rattle.bits.specs.Bits.{bytes_for}
 use Rattle.calls.specs.ReadPlane.{Blocks, bad_blocks, blocks}
 use Rattle.calls.specs.Previews.{report_byte}
 use Rattle.acread.specs.Block.{Ends, bad_ends, ends}
-use Rattle.acread.specs.declared.through.PlaneEnd.{PlaneEnd}
-use Rattle.acread.specs.declared.through.PlaneEnd.TheVariants as plane
+use Rattle.ask.specs.Refusals.{answer}
+use Rattle.ask.specs.declared.refusal.Refusal.{Refusal}
 use Rattle.ask.specs.Numbers.{no_code}
 
 -- where the blocks read end
@@ -29,6 +29,5 @@ abbrev pub ac_end : Blocks → Answer ℕ
 ac_end bad_blocks = refused no_code
 ac_end (blocks bs q r) = accepted (bytes_for q)
 
-abbrev pub end_says : PlaneEnd → Answer ℕ
-end_says (plane.At q) = accepted q
-end_says (plane.Refused n) = refused n
+abbrev pub end_says : Result ℕ Refusal → Answer ℕ
+end_says r = answer (λ q. q) r

@@ -1,19 +1,19 @@
 -- Where no six zero bytes stand in a row, no code is bad. Assumes nothing.
-use mathlib.Core.Path.{◌≡◌, refl, sym, ap, ap₂, ◌∙◌, subst}
+use mathlib.Core.Path.{◌≡◌, refl, sym, ap, ◌∙◌}
 use mathlib.Core.Bool.{Bool, true, false}
 use mathlib.Core.Logic.{⊎_elim}
 use mathlib.Core.List.{List}
-use Prim.Native.Nat.{ℕ, zero, suc, ◌+◌, ◌-◌, ◌*◌, ◌/◌, ◌%◌, ◌^◌, ◌≤◌, ◌<◌}
+use Prim.Native.Nat.{ℕ, suc, ◌+◌, ◌-◌, ◌*◌, ◌/◌, ◌^◌, ◌≤◌, ◌<◌}
 use native.Mathlib.Nat.{zero-div}
 use native.Mathlib.Omega.{arith}
 use lib.ListN.{drop, get_or}
 use Rattle.bits.specs.Bits.{Stream, odd, bit_at, num}
-use Rattle.bits.specs.Read.{zeros, Tail, bad_tail, number, read_tail, Symbol, bad_symbol, run, value, as_run, as_value, by_head, read_symbol, DcCode, bad_dc, zero_step, step, as_step, by_first, read_dc}
+use Rattle.bits.specs.Read.{zeros, Tail, bad_tail, number, read_tail, bad_symbol, as_run, as_value, by_head, read_symbol, bad_dc, as_step, by_first, read_dc}
 use Rattle.bitreader.proofs.words.Num.{num_of, zeros_all}
 use Rattle.bitreader.proofs.words.Words.{byte_most, num_byte}
 use Rattle.bitreader.proofs.Leads.{lt_or_ge}
 use Rattle.bitreader.proofs.Spans.{number_at}
-use Rattle.bitreader.specs.scan.Six.{zero_bytes, no_six_zeros}
+use Rattle.bitreader.specs.scan.Six.{no_six_zeros}
 use Rattle.bitreader.proofs.scan.Rows.{no_six_from, zero_from}
 
 -- a bad tail is 55 zeros

@@ -1,9 +1,9 @@
 -- Laws of the bits of a stream: as numbers, and the zeros before a one. Assumes nothing.
-use mathlib.Core.Path.{◌≡◌, refl, sym, ap, ap₂, ◌∙◌, subst}
+use mathlib.Core.Path.{◌≡◌, refl, sym, ap, ap₂, ◌∙◌}
 use mathlib.Core.Bool.{Bool, true, false}
-use Prim.Native.Nat.{ℕ, zero, suc, ◌+◌, ◌-◌, ◌*◌, ◌/◌, ◌%◌, ◌^◌, ◌≤◌, ◌<◌, zero-le, suc-le-suc}
-use native.Mathlib.Nat.{zero-add, add-zero, add-suc, suc-add, zero-mul, one-mul, add-mul, mul_assoc, pow-suc, two-pow-succ, mod-eq_of_lt, mul-add-mod_self_right, le_of_suc-le-suc, le_refl, mod-one, not-suc-le-zero}
-use native.Mathlib.Numerals.{add-one, one-add}
+use Prim.Native.Nat.{ℕ, zero, suc, ◌+◌, ◌-◌, ◌*◌, ◌/◌, ◌%◌, ◌^◌, ◌≤◌, ◌<◌, suc-le-suc}
+use native.Mathlib.Nat.{zero-add, add-zero, add-suc, suc-add, pow-suc, two-pow-succ, mod-eq_of_lt, mul-add-mod_self_right, le_of_suc-le-suc, le_refl, mod-one, not-suc-le-zero}
+use native.Mathlib.Numerals.{one-add}
 use native.Mathlib.Omega.{arith}
 use lib.Dec.{lit<}
 use lib.Arith.{digits_div}

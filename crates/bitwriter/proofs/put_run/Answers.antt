@@ -1,5 +1,4 @@
 -- `bitwriter::put_run` meets its contract: a run code is one number. Assumes nothing.
-use Prim.Native.Nat.{◌-◌}
 use native.Mathlib.Omega.{arith}
 use Rattle.bitwriter.proofs.Words.{Run, run_code_lem, room_as}
 use Rattle.bitwriter.proofs.put_run.Goals as goal

@@ -1,5 +1,4 @@
 -- `bitwriter::put_value` meets its contract: a value code is one number. Assumes nothing.
-use Prim.Native.Nat.{◌-◌}
 use native.Mathlib.Omega.{arith}
 use Rattle.bitwriter.proofs.Words.{Value, value_word, room_as}
 use Rattle.bitwriter.proofs.put_value.Goals as goal

@@ -1,5 +1,5 @@
 -- A DC by its code, and the low eight bits of a number.
-use Rattle.std.proofs.Common.{◌≡◌, ℕ, zero, suc, ◌-◌, ◌%◌, ◌<◌, ℤ, pos, negsuc, refl, arith, w16, SFits, of_z}
+use Rattle.std.proofs.Common.{◌≡◌, ℕ, zero, suc, ◌%◌, ℤ, pos, negsuc, refl, arith, w16, SFits, of_z}
 use Rattle.scalar.specs.Scalar.{sll_of, mod_z}
 use Rattle.bits.specs.Signed.{signed_of}
 use Rattle.calls.specs.ReadPlane.{settle}

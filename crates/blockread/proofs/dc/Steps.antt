@@ -1,5 +1,5 @@
 -- One DC code more of a plane: its byte.
-use Rattle.std.proofs.Common.{◌≡◌, ℕ, suc, true, false, List, [], ◌∷◌, map, replicate, ℤ, pos, sym, refl, ap, ◌∙◌, arith}
+use Rattle.std.proofs.Common.{◌≡◌, ℕ, suc, true, false, [], ◌∷◌, ℤ, pos, sym, refl, ap, ◌∙◌, arith}
 use Rattle.scalar.specs.Scalar.{add_of}
 use Rattle.bits.specs.Bits.{Stream}
 use Rattle.bits.specs.Read.{read_dc}

@@ -1,17 +1,20 @@
 -- Laws of the builder's streams.
 use mathlib.Core.Path.{◌≡◌, refl, sym, ap, ap₂, ◌∙◌}
 use mathlib.Core.Bool.{Bool, true, false}
-use mathlib.Core.List.{List}
+use mathlib.Core.List.{List, [], ◌∷◌}
 use Prim.Native.Nat.{ℕ, zero, suc, ◌+◌, ◌-◌, ◌≤◌, ◌<◌}
 use native.Mathlib.Omega.{arith}
 use lib.Dec.{leb, ltb, eqb}
 use lib.ListN.{length}
-use borrow.Author.Tests.{le-leb, lt-leb, leb-true, leb-false, ltb-true, eqb-true, ne_eqb}
+use borrow.Author.Tests.{le-leb, lt-leb, leb-true, leb-false, ltb-true, eqb-true}
+use Rattle.ask.proofs.Asked.{asked_no, asked_yes}
+use Rattle.ask.specs.Refusals.{number_of}
+use Rattle.ask.specs.declared.refusal.Refusal.{Refusal}
 use Rattle.ask.specs.Ask.{Answer, refused, accepted, first_no, asked}
-use Rattle.ask.specs.Numbers.{no_size}
+use Rattle.ask.specs.Limits.{width_max}
 use Rattle.bits.specs.Lay.{lay}
 use Rattle.bits.proofs.LayLaw.{lay_lay}
-use Rattle.layout.specs.Geometry.{size_ok, slice_count, max_dc_len, max_ac_len, limit_of}
+use Rattle.layout.specs.Geometry.{size_question, size_ok, slice_count, max_dc_len, max_ac_len, limit_of}
 use Rattle.layout.specs.Views.{is_ac}
 use Rattle.layout.specs.declared.Kind.{Kind}
 use Rattle.layout.specs.declared.Kind.TheVariants as kind
@@ -91,6 +94,11 @@ puts w h b ac slice n len e = go (leb (b.at + (4 + n)) len) refl (size_ok w h) r
           turn = in_its_turn (slice_count h) ac slice b z;
         }
 
+-- a stream within its limit has a length of 32 bits
+pub short_stream : (w : ℕ) (ac : Bool) {n : ℕ} → w ≤ width_max → n ≤ limit_of ac w → n < 4294967296
+short_stream w true h k = omega arith
+short_stream w false h k = omega arith
+
 pub below_count : {n m slices : ℕ} → n < m → slices ≡ m → n < slices
 below_count l e = rw e l
 
@@ -114,6 +122,10 @@ module _ (slices : ℕ) (b : Build) (at : ℕ) where
 
 -- ---- the answers
 module _ (w h : ℕ) (b : Build) (ac : Bool) (slice : ℕ) (s out : List ℕ) where
+  pub stream_refused : (e : Refusal) → number_of e ≡ first_no (stream_questions w h b ac slice (length s) (length out)) → stream_of w h b ac slice s out ≡ refused (number_of e)
+  unfolding stream_of
+  stream_refused e k = sym (asked_no _ _ e k)
+
   pub stream_no : {n : ℕ} → n ≡ first_no (stream_questions w h b ac slice (length s) (length out)) → 0 < n → stream_of w h b ac slice s out ≡ refused n
   unfolding stream_of asked
   stream_no {n = zero} e k = absurd (omega arith)
@@ -157,17 +169,11 @@ stream_built b out at s {slices} {count} {b'} {l} {m} h c e f g =
     ap₂ built (ap₂ (λ (k p : ℕ). after_stream k b p) (sym c) i ∙ sym e) (sym j)
 
 -- ---- a complete frame
-pub complete_first : (slices : ℕ) {t : Bool} {n : ℕ} → t ≡ true → n ≡ 0 → true ≡ is_complete slices t n
-complete_first slices e z = rw (e, z) refl
+module _ (w h : ℕ) (t : Bool) (n : ℕ) where
+  pub complete_told : {h' slices : ℕ} {b : Bool} → h' ≡ h → slices ≡ slice_count h' → 0 ≡ first_no (size_question w h ∷ []) → b ≡ is_complete slices t n → accepted b ≡ complete_of w h t n
+  unfolding complete_of
+  complete_told u c e f = rw (asked_yes (size_question w h ∷ []) (accepted (is_complete (slice_count h) t n)) e, f, c, u)
 
-pub complete_last : (slices : ℕ) {t : Bool} {n : ℕ} → t ≡ true → (n ≡ 0 → ⊥) → eqb n slices ≡ is_complete slices t n
-complete_last slices {n} e z = rw (e, ne_eqb n 0 z) refl
-
-module _ (w h : ℕ) where
-  pub complete_told : (t : Bool) (n : ℕ) {slices : ℕ} {b : Bool} → size_ok w h ≡ true → slices ≡ slice_count h → b ≡ is_complete slices t n → accepted b ≡ complete_of w h t n
-  unfolding complete_of asked first_no
-  complete_told t n e c f = rw (e, f, c) refl
-
-  pub complete_refused : (t : Bool) (n : ℕ) → size_ok w h ≡ false → refused no_size ≡ complete_of w h t n
-  unfolding complete_of asked first_no
-  complete_refused t n e = rw e refl
+  pub complete_refused : (e : Refusal) → number_of e ≡ first_no (size_question w h ∷ []) → refused (number_of e) ≡ complete_of w h t n
+  unfolding complete_of
+  complete_refused e k = asked_no _ _ e k

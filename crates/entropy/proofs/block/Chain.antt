@@ -1,8 +1,8 @@
 -- Puts one after the other.
-use mathlib.Core.Path.{◌≡◌, refl, sym, ap, ◌∙◌, subst}
+use mathlib.Core.Path.{refl, sym, subst}
 use mathlib.Core.Bool.{Bool}
-use mathlib.Core.List.{List, [], ◌∷◌, ◌++◌, append_assoc, append-nil}
-use Prim.Native.Nat.{ℕ, zero, suc, ◌+◌, ◌*◌, ◌/◌, ◌^◌, ◌≤◌, ◌<◌}
+use mathlib.Core.List.{List, [], ◌++◌, append_assoc, append-nil}
+use Prim.Native.Nat.{ℕ, ◌+◌, ◌≤◌}
 use native.Mathlib.Nat.{add-zero}
 use native.Mathlib.Omega.{arith}
 use lib.ListN.{length, length-append}
@@ -12,7 +12,7 @@ use Rattle.bits.proofs.Codes.{length_bits_of}
 use Rattle.bits.proofs.LayLaw.{lay_none}
 use Rattle.bitwriter.specs.Put.{Wrote, Put, Room}
 use Rattle.bitwriter.specs.declared.BitAcc.{BitAcc}
-use Rattle.bitwriter.proofs.Writer.{put_chain, wrote_room, wrote_length}
+use Rattle.bitwriter.proofs.Writer.{put_chain, wrote_room}
 
 -- nothing is put
 pub put_none : {a : BitAcc} {n : ℕ} {o : List ℕ} → Room a n o → Put a o [] a o

@@ -1,13 +1,13 @@
 -- Laws of a DC step's code and of the half step.
 use mathlib.Core.Path.{◌≡◌, refl, sym, ap, ◌∙◌, subst}
 use mathlib.Core.Bool.{Bool}
-use mathlib.Core.List.{List, []}
-use Prim.Native.Nat.{ℕ, zero, suc, ◌+◌, ◌-◌, ◌*◌, ◌%◌, ◌^◌, ◌≤◌, ◌<◌}
+use mathlib.Core.List.{List}
+use Prim.Native.Nat.{ℕ, zero, suc, ◌-◌, ◌*◌, ◌%◌, ◌^◌, ◌≤◌, ◌<◌}
 use native.Mathlib.Omega.{arith}
 use lib.IntN.{ℤ, pos, negsuc, nat_abs}
 use lib.ListN.{length}
 use lib.Pow.{pow_mono}
-use mir.Syntax.{w16, w32}
+use mir.Syntax.{w16}
 use mir.Val.{SFits, to_z}
 use mir.Facts.{to_z_pos}
 use Rattle.scalar.specs.Scalar.{sll_of}
@@ -41,6 +41,10 @@ code_step x h = omega (arith, code_le x)
 
 pub code_small : (x : ℤ) → nat_abs x ≤ 2048 → code_of x < 32768
 code_small x h = omega (arith, code_le x)
+
+pub small_fits : (x : ℤ) → nat_abs x ≤ 2048 → SFits w16 x
+small_fits (pos n) h = record { sfits = omega arith }
+small_fits (negsuc n) h = record { sfits = omega arith }
 
 pub code_some : (x : ℤ) → (x ≡ pos 0 → ⊥) → 0 < code_of x
 code_some x h = omega (arith, code_value x h)

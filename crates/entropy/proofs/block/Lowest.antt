@@ -1,6 +1,6 @@
 -- The lowest bit of a number: where it is, and the number without it.
 use mathlib.Core.Path.{◌≡◌, refl, sym, ap, ap₂, ◌∙◌}
-use Prim.Native.Nat.{ℕ, zero, suc, ◌+◌, ◌-◌, ◌*◌, ◌/◌, ◌%◌, ◌^◌, ◌≤◌, ◌<◌}
+use Prim.Native.Nat.{ℕ, zero, suc, ◌+◌, ◌-◌, ◌*◌, ◌^◌, ◌<◌}
 use native.Mathlib.Nat.{zero-add, mul-one, one-mul, add-mul, mul_assoc, suc-mul, two-pow-succ}
 use native.Mathlib.Omega.{arith}
 use lib.Bits.{bit_and, and_block, and_self, and_shifted, shifted_half, shifted_even}

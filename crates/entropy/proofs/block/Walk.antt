@@ -8,8 +8,8 @@ use native.Mathlib.Numerals.{add-one}
 use native.Mathlib.Omega.{arith}
 use lib.Bits.{bit_and}
 use lib.Count.{count_trailing_zeros, under}
-use lib.IntN.{ℤ, pos, negsuc, nat_abs}
-use lib.ListN.{length, drop, get_or, length-append, length-drop}
+use lib.IntN.{ℤ, pos, negsuc}
+use lib.ListN.{length, drop, length-append, length-drop}
 use lib.Seq.{drop-cons, drop-drop, get_or-drop}
 use Rattle.scalar.specs.Tab.{lane}
 use Rattle.bits.specs.Bits.{value_code, run_code}
@@ -18,7 +18,7 @@ use Rattle.shuffles.specs.Shuffles.{flag, nonzero_mask}
 use Rattle.calls.specs.Streams.{with_dc}
 use Rattle.bitwriter.specs.Put.{Put, Room}
 use Rattle.bitwriter.specs.declared.BitAcc.{BitAcc}
-use Rattle.entropy.specs.block.Places.{places_codes, waiting_after, Small}
+use Rattle.entropy.specs.block.Places.{places_codes, waiting_after}
 use Rattle.entropy.proofs.block.Places.{value_codes, value_waits, first_codes, first_waits}
 use Rattle.entropy.proofs.block.Lowest.{shifted, none_left, doubled, scaled, cleared}
 use Rattle.entropy.proofs.block.Chain.{put_none, put_put, put_room}

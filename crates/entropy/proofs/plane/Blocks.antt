@@ -1,17 +1,16 @@
 -- Blocks coded one after the other.
-use mathlib.Core.Path.{◌≡◌, refl, sym, ap, ap₂, ◌∙◌, subst}
+use mathlib.Core.Path.{◌≡◌, refl, sym, ap, ◌∙◌, subst}
 use mathlib.Core.Bool.{Bool}
-use mathlib.Core.List.{List, [], ◌∷◌, ◌++◌, map}
-use Prim.Native.Nat.{ℕ, zero, suc, ◌+◌, ◌*◌, ◌/◌, ◌^◌, ◌≤◌, ◌<◌}
-use native.Mathlib.Omega.{arith}
-use lib.IntN.{ℤ, pos, nat_abs, ◌-ℤ◌}
+use mathlib.Core.List.{List, [], ◌∷◌, ◌++◌}
+use Prim.Native.Nat.{ℕ, ◌≤◌}
+use lib.IntN.{ℤ, pos, ◌-ℤ◌}
 use lib.ListN.{length}
 use Rattle.scalar.specs.Tab.{lane}
 use Rattle.bits.specs.Bits.{bits_of}
 use Rattle.calls.specs.Arguments.{PerStream}
 use Rattle.calls.specs.Streams.{coded_dc, steps_from, step_code, step_codes, with_dc}
 use Rattle.bitwriter.specs.declared.BitAcc.{BitAcc}
-use Rattle.bitwriter.specs.Put.{start, Wrote, Put, Room}
+use Rattle.bitwriter.specs.Put.{Put}
 use Rattle.bitwriter.proofs.Writer.{wrote_start}
 use Rattle.entropy.specs.block.Places.{places_codes, waiting_after}
 use Rattle.entropy.proofs.block.Places.{places_split, waiting_split}

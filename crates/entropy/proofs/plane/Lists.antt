@@ -1,11 +1,9 @@
 -- Laws of lists of blocks, one after the other: their steps, their places.
-use mathlib.Core.Path.{◌≡◌, refl, sym, ap, ap₂, ◌∙◌}
+use mathlib.Core.Path.{◌≡◌, refl, sym, ap, ◌∙◌}
 use mathlib.Core.Bool.{Bool}
 use mathlib.Core.List.{List, [], ◌∷◌, ◌++◌, map, append_assoc, append-nil, map-append}
-use Prim.Native.Nat.{ℕ, zero, suc, ◌+◌, ◌*◌, ◌≤◌, ◌<◌}
-use native.Mathlib.Omega.{arith}
-use lib.IntN.{ℤ, pos, negsuc, nat_abs, ◌-ℤ◌}
-use lib.ListN.{length, length-append}
+use Prim.Native.Nat.{ℕ}
+use lib.IntN.{ℤ, pos, ◌-ℤ◌}
 use Rattle.scalar.specs.Tab.{lane}
 use Rattle.calls.specs.Streams.{coded_dc, steps_from, step_code, step_codes, dc_of, with_dc, joined}
 use Rattle.entropy.specs.plane.Coded.{coded_dcs, places, last_of}

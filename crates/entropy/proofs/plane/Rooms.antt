@@ -1,27 +1,26 @@
 -- Room for 4 and 197 bytes a block: every put of quantised blocks fits.
-use mathlib.Core.Path.{◌≡◌, refl, sym, ap, ap₂, ◌∙◌, subst}
+use mathlib.Core.Path.{◌≡◌, refl, ap, ◌∙◌}
 use mathlib.Core.Bool.{Bool}
 use mathlib.Core.List.{List, [], ◌∷◌, ◌++◌, map}
-use Prim.Native.Nat.{ℕ, zero, suc, ◌+◌, ◌*◌, ◌/◌, ◌^◌, ◌≤◌, ◌<◌}
+use Prim.Native.Nat.{ℕ, zero, suc, ◌+◌, ◌*◌, ◌≤◌, ◌<◌}
 use native.Mathlib.Omega.{arith}
-use lib.IntN.{ℤ, pos, negsuc, nat_abs, ◌-ℤ◌}
-use lib.ListN.{length, get_or, length-append}
+use lib.IntN.{ℤ, pos, nat_abs, ◌-ℤ◌}
+use lib.ListN.{length, length-append}
 use Rattle.scalar.specs.Tab.{lane}
-use Rattle.bits.specs.Bits.{bits_of, run_code, bytes_for, pad_to_byte}
+use Rattle.bits.specs.Bits.{bits_of, run_code, bytes_for}
 use Rattle.bits.proofs.PackBack.{length_pad_to_byte}
 use Rattle.bits.proofs.Codes.{length_bits_of}
 use Rattle.ask.specs.Limits.{shift_max, dc_block_bytes, ac_block_bytes}
 use Rattle.calls.specs.Arguments.{PerStream}
-use Rattle.calls.specs.Streams.{coded_dc, steps_from, step_code, step_codes, dc_of, with_dc, joined, symbol_codes, dc_stream, ac_stream}
+use Rattle.calls.specs.Streams.{coded_dc, steps_from, step_code, step_codes, dc_of, with_dc, symbol_codes, dc_stream, ac_stream}
 use Rattle.calls.proofs.Size.{AtMost}
 use Rattle.calls.proofs.Fits.{Quantised, AllQuantised, all_append, dcs_at_most, dc_le, ac_le}
 use Rattle.calls.proofs.DcNear.{dc_near}
-use Rattle.bitwriter.specs.declared.BitAcc.{BitAcc}
-use Rattle.bitwriter.specs.Put.{start, Wrote, Put, Room, LastRoom}
+use Rattle.bitwriter.specs.Put.{Wrote, Room}
 use Rattle.bitwriter.proofs.Writer.{wrote_room, whole_room, wrote_length, wrote_count}
 use Rattle.entropy.specs.block.Places.{places_codes, waiting_after, Small}
 use Rattle.entropy.proofs.block.Places.{symbols_end, waiting_le}
-use Rattle.entropy.specs.plane.Coded.{start_of, coded_dcs, places, last_of, PlaneCoded, BlockRoom, last_bits, EndRoom}
+use Rattle.entropy.specs.plane.Coded.{start_of, coded_dcs, places, last_of, PlaneCoded, BlockRoom, EndRoom}
 use Rattle.entropy.specs.declared.plane.PlaneState.{PlaneState}
 use Rattle.entropy.proofs.plane.Lists.{steps_append, dcs_append, places_append, places_one, steps_one}
 use Rattle.entropy.proofs.block.Places.{places_split}

@@ -1,8 +1,8 @@
 -- The two streams of a plane, whole.
-use mathlib.Core.Path.{◌≡◌, refl, sym, ap, ap₂, ◌∙◌, subst}
+use mathlib.Core.Path.{◌≡◌, sym, ap, ap₂, ◌∙◌}
 use mathlib.Core.Bool.{Bool}
-use mathlib.Core.List.{List, [], ◌∷◌, ◌++◌, map, append_assoc, append-nil}
-use Prim.Native.Nat.{ℕ, zero, suc, ◌+◌, ◌*◌, ◌/◌, ◌^◌, ◌≤◌, ◌<◌}
+use mathlib.Core.List.{List, [], ◌++◌, append_assoc, append-nil}
+use Prim.Native.Nat.{ℕ, ◌+◌, ◌≤◌}
 use native.Mathlib.Omega.{arith}
 use lib.IntN.{ℤ, pos}
 use lib.ListN.{length, length-append}
@@ -18,9 +18,9 @@ use Rattle.calls.specs.Streams.{steps_from, step_codes, symbol_codes, dc_stream,
 use Rattle.bitwriter.specs.declared.BitAcc.{BitAcc}
 use Rattle.bitwriter.specs.Put.{Wrote}
 use Rattle.bitwriter.proofs.Writer.{wrote_count}
-use Rattle.entropy.specs.block.Places.{places_codes, waiting_after}
+use Rattle.entropy.specs.block.Places.{places_codes}
 use Rattle.entropy.proofs.block.Places.{symbols_end}
-use Rattle.entropy.specs.plane.Coded.{start_of, coded_dcs, places, PlaneCoded, last_bits, Ended}
+use Rattle.entropy.specs.plane.Coded.{start_of, coded_dcs, places, PlaneCoded, Ended}
 use Rattle.entropy.specs.declared.plane.PlaneState.{PlaneState}
 
 -- what waits, and cs after it, padded and laid at the writer's place: all the bits from the start on

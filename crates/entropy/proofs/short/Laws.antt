@@ -9,7 +9,7 @@ use lib.IntN.{ℤ, pos, negsuc}
 use lib.ListN.{length, get_or}
 use lib.Pow.{pow_mono, pow_pos}
 use mir.Syntax.{w16}
-use mir.Val.{SFits, of_z}
+use mir.Val.{SFits}
 use Rattle.scalar.proofs.Fill.{get_d_tab}
 use Rattle.bits.specs.Bits.{bits_of, bit_length, value_code, run_code}
 use Rattle.bits.specs.Signed.{code_of}
@@ -19,7 +19,7 @@ use Rattle.bitwriter.specs.Pairs.{run_word, run_length, value_length, pair_code}
 use Rattle.bitwriter.specs.Put.{Put, Room}
 use Rattle.bitwriter.specs.declared.BitAcc.{BitAcc}
 use Rattle.bitwriter.specs.declared.PairCode.{PairCode}
-use Rattle.bitwriter.proofs.Pairs.{Pair, pair_word}
+use Rattle.bitwriter.proofs.Pairs.{pair_word}
 use Rattle.entropy.specs.short.Tables.{place_of, code_by, code_at, run_entry, value_entry, run_table, value_table}
 
 -- ---- an entry's code and length

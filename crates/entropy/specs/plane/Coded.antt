@@ -6,7 +6,6 @@ use Rattle.bits.specs.Lay.{lay}
 use Rattle.ask.specs.Limits.{shift_max}
 use Rattle.calls.specs.Arguments.{PerStream}
 use Rattle.calls.specs.Streams.{coded_dc, steps_from, step_code, step_codes, dc_of, with_dc, joined}
-use Rattle.bitwriter.specs.declared.BitAcc.{BitAcc}
 use Rattle.bitwriter.specs.Put.{start, Put, Room, LastRoom}
 use Rattle.entropy.specs.block.Places.{places_codes, waiting_after, Small}
 use Rattle.entropy.specs.declared.plane.PlaneState.{PlaneState}

@@ -8,15 +8,6 @@ use Rattle.fdct.proofs.fdct.Goals as goal
 
 pub returns : goal.returns
 unfolding transform_of
-returns c =
-    let k = c.before in
-    let l = k.before in
-    let s = l.before in
+returns g c =
     c.row_pass.ensures
-    ∙ ap forward_rows_of (k.columns.ensures ∙ ap (forward_columns_of s.args.shift) (l.level.ensures ∙ ap (λ (z : ℤ). level_shift_of z s.args.block) (to_z-of_z s.ranges.add)))
-
-pub level-requires : goal.level-requires
-level-requires c = tt
-
-pub row_pass-requires : goal.row_pass-requires
-row_pass-requires c = tt
+    ∙ ap forward_rows_of (c.columns.ensures ∙ ap (forward_columns_of c.args.shift) (c.level.ensures ∙ ap (λ (z : ℤ). level_shift_of z c.args.block) (to_z-of_z c.ranges.add)))

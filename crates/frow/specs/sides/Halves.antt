@@ -1,5 +1,5 @@
 -- Sums and differences of opposite lanes, each twice, as dct.rs makes them by shuffles.
-use Rattle.std.specs.Prelude.{List, ℕ, ℤ}
+use Rattle.std.specs.Prelude.{List, ℤ}
 use Rattle.lanes.specs.Lanes.{mm_adds_epi16, mm_subs_epi16}
 use Rattle.lanes.specs.rows.Block.{row_of, block_of}
 use Rattle.shuffles.specs.Shuffles.{mm_shuffle_epi32_16, mm_shufflehi_epi16}

@@ -1,22 +1,11 @@
 -- `judge::plane`: one plane of either stream.
 use mathlib.Core.Path.{sym, ◌∙◌}
 use Prim.Native.Nat.{◌*◌}
-use native.Mathlib.Omega.{arith}
 use Rattle.bits.specs.Bits.{bit_at}
 use Rattle.calls.specs.ReadPlane.{read_blocks}
 use Rattle.acread.specs.through.Through.{block_ends, good_ends}
 use Rattle.judge.proofs.Planes.{plane_good, both_streams_lem, dc_bad}
 use Rattle.judge.proofs.plane.Goals as goal
-
-pub dc_good-requires : goal.dc_good-requires
-dc_good-requires c =
-    let s = c in
-    (omega (arith, s.requires.0), s.requires.2)
-
-pub ac_good-requires : goal.ac_good-requires
-ac_good-requires c =
-    let s = c in
-    (omega (arith, s.requires.1), s.requires.2)
 
 pub returns-then-dc_good : goal.returns-then-dc_good
 returns-then-dc_good c = λ shift.
@@ -24,8 +13,8 @@ returns-then-dc_good c = λ shift.
     both_streams_lem (sym c.dc_good.ensures ∙ c.if-dc_good.true) c.ac_good.ensures
     ∙ sym (plane_good shift (2 * a.columns) a.dc.now a.ac.now a.at.dc a.at.ac)
 
-pub returns : goal.returns
-returns c = λ shift.
+pub returns-else-dc_good : goal.returns-else-dc_good
+returns-else-dc_good c = λ shift.
     let a = c.args in
-    dc_bad (good_ends (block_ends (read_blocks (2 * a.columns) (bit_at a.ac.now) (8 * a.at.ac) 0))) (sym c.dc_good.ensures ∙ c.if-dc_good.false)
+    c.if-dc_good.false ∙ dc_bad (good_ends (block_ends (read_blocks (2 * a.columns) (bit_at a.ac.now) (8 * a.at.ac) 0))) (sym c.dc_good.ensures ∙ c.if-dc_good.false)
     ∙ sym (plane_good shift (2 * a.columns) a.dc.now a.ac.now a.at.dc a.at.ac)

@@ -9,12 +9,6 @@ use Rattle.judge.specs.Good.{first_strides, dc_plane, ac_plane, good_in_turn}
 use Rattle.judge.proofs.Planes.{planes_good, both_streams_lem, dc_bad}
 use Rattle.judge.proofs.slice.Goals as goal
 
-pub stream_good-requires : goal.stream_good-requires
-stream_good-requires c = let s = c in (s.requires.0, s.requires.2)
-
-pub stream_good-requires-then-stream_good : goal.stream_good-requires-then-stream_good
-stream_good-requires-then-stream_good c = let s = c in (s.requires.1, s.requires.2)
-
 pub returns-then-stream_good : goal.returns-then-stream_good
 returns-then-stream_good c = λ shift ps e.
     let a = c.args in
@@ -22,9 +16,9 @@ returns-then-stream_good c = λ shift ps e.
     ∙ ap (λ (l : List ℕ). good_in_turn (dc_plane a.dc.now) l a.at.dc && good_in_turn (ac_plane a.ac.now) l a.at.ac) (sym e)
     ∙ sym (planes_good shift ps (buffers a.dc.now a.ac.now) (positions_by a.at))
 
-pub returns : goal.returns
-returns c = λ shift ps e.
+pub returns-else-stream_good : goal.returns-else-stream_good
+returns-else-stream_good c = λ shift ps e.
     let a = c.args in
-    dc_bad (good_in_turn (ac_plane a.ac.now) (first_strides a.f) a.at.ac) (sym c.stream_good.ensures ∙ c.if-stream_good.false)
+    c.if-stream_good.false ∙ dc_bad (good_in_turn (ac_plane a.ac.now) (first_strides a.f) a.at.ac) (sym c.stream_good.ensures ∙ c.if-stream_good.false)
     ∙ ap (λ (l : List ℕ). good_in_turn (dc_plane a.dc.now) l a.at.dc && good_in_turn (ac_plane a.ac.now) l a.at.ac) (sym e)
     ∙ sym (planes_good shift ps (buffers a.dc.now a.ac.now) (positions_by a.at))

@@ -1,10 +1,13 @@
 -- A reading call on one plane: what the questions leave to the judge, and the number by his verdict.
 use mathlib.Core.Path.{◌≡◌, refl, sym, ◌∙◌}
-use mathlib.Core.Bool.{true, false}
+use mathlib.Core.Bool.{Bool, true, false}
 use mathlib.Core.List.{List, []}
 use Prim.Native.Nat.{ℕ, ◌/◌, ◌^◌, ◌≤◌, ◌<◌}
 use native.Mathlib.Omega.{arith}
-use Rattle.ask.specs.Ask.{first_no}
+use Rattle.ask.specs.Ask.{or_else, first_no}
+use Rattle.ask.specs.Refusals.{number_of}
+use Rattle.ask.specs.declared.refusal.Refusal.{Refusal}
+use Rattle.calls.proofs.Told.{some}
 use Rattle.ask.specs.Numbers.{no_code}
 use Rattle.calls.specs.Arguments.{Depth, Call, PerStream, Buffers, lengths_of}
 use Rattle.calls.specs.Views.{plane_call}
@@ -14,7 +17,7 @@ use Rattle.calls.specs.ReadPlane.{PlaneRead, bad_plane, plane_read, read_plane}
 use Rattle.calls.specs.Grid.{blocks_of}
 use Rattle.calls.specs.Questions.{reading_questions}
 use Rattle.calls.proofs.Legal.{reading_legal}
-use Rattle.slice.specs.Calls.{PlanesRead, planes_read, by_plane, read_planes, decode}
+use Rattle.slice.specs.Calls.{planes_read, by_plane, read_planes, decode}
 use Rattle.blockread.specs.On.{good_plane}
 use Rattle.judge.specs.Good.{good_planes}
 use Rattle.judge.proofs.verdict.Laws.{number_no, number_bad, number_good}
@@ -36,18 +39,15 @@ module _ (depth : Depth) (s : Settings) (h : Shape) (samples : List ℕ) (b : Bu
   abbrev read : PlaneRead
   read = read_plane s.shift (blocks_of h.stride) b.dc_bytes b.ac_bytes at.dc at.ac
 
-  pub may_judge : {n : ℕ} → asked n → n ≡ 0 → (at.dc < 2 ^ 30) × (at.ac < 2 ^ 30) × (h.stride / 8 ≤ 960)
-  may_judge e z =
-      let l = reading_legal call (lengths_of b) at (sym e ∙ z) in
+  pub may_judge : asked 0 → (at.dc < 2 ^ 30) × (at.ac < 2 ^ 30) × (h.stride / 8 ≤ 960)
+  may_judge e =
+      let l = reading_legal call (lengths_of b) at (sym e) in
       (omega (arith, l.dc_start), omega (arith, l.ac_start), omega (arith, l.legal.planes.0.stride_le))
 
-  pub plane_no : {n : ℕ} → asked n → 0 < n → numbered n
-  plane_no e z = number_no call b at e z
+  pub plane_no : (e : Refusal) → asked (number_of e) → numbered (number_of e)
+  plane_no e z = number_no call b at z (some e)
 
-  pub plane_bad : {n : ℕ} → asked n → n ≡ 0 → false ≡ good_plane read → numbered no_code
+  pub plane_judged : (x : Bool) {r : ℕ} → asked 0 → x ≡ good_plane read → r ≡ or_else x no_code 0 → numbered r
   unfolding read_planes
-  plane_bad e z g = number_bad call b at e z (one_good read ∙ sym g)
-
-  pub plane_good : {n : ℕ} → asked n → n ≡ 0 → true ≡ good_plane read → numbered 0
-  unfolding read_planes
-  plane_good e z g = number_good call b at e z (one_good read ∙ sym g)
+  plane_judged true e g h = h ∙ number_good call b at e refl (one_good read ∙ sym g)
+  plane_judged false e g h = h ∙ number_bad call b at e refl (one_good read ∙ sym g)

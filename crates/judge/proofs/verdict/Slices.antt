@@ -1,15 +1,18 @@
 -- A reading call on a slice: what the questions leave to the judge, and the number by his verdict.
-use mathlib.Core.Path.{◌≡◌, sym, ◌∙◌}
+use mathlib.Core.Path.{◌≡◌, refl, sym, ◌∙◌}
 use mathlib.Core.Bool.{Bool, true, false}
 use mathlib.Core.List.{List, [], ◌∷◌}
 use Prim.Native.Nat.{ℕ, zero, suc, ◌^◌, ◌≤◌, ◌<◌}
 use native.Mathlib.Omega.{arith}
 use lib.ListN.{length, take, get_or}
-use Rattle.ask.specs.Ask.{first_no}
+use Rattle.ask.specs.Ask.{or_else, first_no}
+use Rattle.ask.specs.Refusals.{number_of}
+use Rattle.ask.specs.declared.refusal.Refusal.{Refusal}
+use Rattle.calls.proofs.Told.{some}
 use Rattle.ask.specs.Numbers.{no_code}
 use Rattle.ask.specs.Limits.{stride_max}
 use Rattle.calls.specs.Arguments.{Depth, Plane, Call, planes_lent, planes_of, PerStream, Buffers, lengths_of}
-use Rattle.calls.specs.Views.{stride_by, slice_call}
+use Rattle.calls.specs.Views.{slice_call}
 use Rattle.calls.specs.declared.Settings.{Settings}
 use Rattle.calls.specs.declared.Four.{Four}
 use Rattle.calls.specs.Legal.{LegalPlane, Every}
@@ -56,9 +59,9 @@ module _ (G : Given) where
   verdict : {x : Bool} → judged x → x ≡ good_planes (read_planes G.s.shift (planes_of call) G.b G.at)
   verdict j = j G.s.shift (planes_of call) (first_strides_lem G.f.count (planes_lent call))
 
-  pub may_judge : {n : ℕ} → asked n → n ≡ 0 → (G.at.dc < 2 ^ 30) × (G.at.ac < 2 ^ 30) × StridesFit G.f
-  may_judge e z =
-      let l = reading_legal call (lengths_of G.b) G.at (sym e ∙ z) in (
+  pub may_judge : asked 0 → (G.at.dc < 2 ^ 30) × (G.at.ac < 2 ^ 30) × StridesFit G.f
+  may_judge e =
+      let l = reading_legal call (lengths_of G.b) G.at (sym e) in (
         omega (arith, l.dc_start),
         omega (arith, l.ac_start),
         (
@@ -70,11 +73,9 @@ module _ (G : Given) where
         ),
       )
 
-  pub slice_no : {n : ℕ} → asked n → 0 < n → numbered n
-  slice_no e h = number_no call G.b G.at e h
+  pub slice_no : (e : Refusal) → asked (number_of e) → numbered (number_of e)
+  slice_no e z = number_no call G.b G.at z (some e)
 
-  pub slice_bad : {n : ℕ} {x : Bool} → asked n → n ≡ 0 → judged x → x ≡ false → numbered no_code
-  slice_bad e z j f = number_bad call G.b G.at e z (sym (verdict j) ∙ f)
-
-  pub slice_good : {n : ℕ} {x : Bool} → asked n → n ≡ 0 → judged x → x ≡ true → numbered 0
-  slice_good e z j f = number_good call G.b G.at e z (sym (verdict j) ∙ f)
+  pub slice_judged : (x : Bool) {r : ℕ} → asked 0 → judged x → r ≡ or_else x no_code 0 → numbered r
+  slice_judged true e j h = h ∙ number_good call G.b G.at e refl (sym (verdict j))
+  slice_judged false e j h = h ∙ number_bad call G.b G.at e refl (sym (verdict j))

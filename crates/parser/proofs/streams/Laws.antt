@@ -2,18 +2,14 @@
 use mathlib.Core.Path.{◌≡◌, refl, sym, ap, ◌∙◌}
 use mathlib.Core.Bool.{Bool, true, false}
 use mathlib.Core.List.{List}
-use Prim.Native.Nat.{ℕ, zero, suc, ◌+◌, ◌-◌, ◌*◌, ◌≤◌, ◌<◌}
+use Prim.Native.Nat.{ℕ, zero, suc, ◌+◌, ◌-◌, ◌≤◌, ◌<◌}
 use native.Mathlib.Omega.{arith}
-use mir.Val.{Fits}
-use mir.Syntax.{w64}
 use lib.Dec.{leb}
 use lib.ListN.{length}
 use borrow.Author.Tests.{le-leb, lt-leb, leb-true, leb-false}
 use Rattle.ask.specs.Ask.{Answer, refused, accepted, first_no, asked, and_then}
 use Rattle.ask.specs.Numbers.{no_bytes, no_limit}
-use Rattle.parser.specs.streams.Streams.{byte_at, length_at, one_stream, streams}
-use Rattle.parser.specs.streams.Views.{place_says}
-use Rattle.parser.specs.declared.streams.Place.{Place}
+use Rattle.parser.specs.streams.Streams.{length_at, one_stream, streams}
 
 -- ---- answers
 pub never : {n q : ℕ} → refused n ≡ accepted q → ⊥
@@ -21,15 +17,6 @@ never g = let z : ◌≡◌ {A = ℕ} 0 1 = cc in omega arith
 
 pub same : {a b : ℕ} → accepted a ≡ accepted b → a ≡ b
 same g = cc
-
--- what a walk answered, known by the case that its result is of
-pub place_told : {r x : Place} {a : Answer ℕ} → place_says r ≡ a → r ≡ x → a ≡ place_says x
-place_told e d = sym e ∙ ap place_says d
-
--- ---- a length word
-pub length_is : (f : List ℕ) (p : ℕ) {a b c d : ℕ} → a ≡ byte_at f p → b ≡ byte_at f (p + 1) → c ≡ byte_at f (p + 2) → d ≡ byte_at f (p + 3) → a + 256 * (b + 256 * (c + 256 * d)) ≡ length_at f p
-unfolding length_at
-length_is f p x y z u = rw (x, y, z, u)
 
 -- ---- one stream
 module _ (limit : ℕ) (f : List ℕ) (p : ℕ) where
@@ -121,11 +108,3 @@ one_end limit f p {q} e = go (leb (p + 4) (length f)) refl (leb (length_at f p) 
     go true x false y d z = absurd (never (sym (one_long limit f p (leb-true _ _ x) (leb-false _ _ y)) ∙ e))
     go true x true y false z = absurd (never (sym (one_short limit f p (leb-true _ _ x) (leb-true _ _ y) (leb-false _ _ z)) ∙ e))
     go true x true y true z = same (sym e ∙ one_whole limit f p (leb-true _ _ x) (leb-true _ _ y) (leb-true _ _ z))
-
--- an accepted stream ends after its length word
-module _ (limit : ℕ) (f : List ℕ) (p : ℕ) {q : ℕ} (e : one_stream limit f p ≡ accepted q) where
-  pub part_fits : Fits w64 q → Fits w64 (p + 4)
-  part_fits k = omega (arith, one_end limit f p e)
-
-  pub part_before : p + 4 ≤ q
-  part_before = omega (arith, one_end limit f p e)

@@ -1,9 +1,9 @@
 -- What the code's type says, in the definitions' terms.
-use Rattle.std.specs.Prelude.{ℕ}
-use Rattle.ask.specs.Ask.{Answer, refused, accepted}
-use Rattle.parser.specs.declared.streams.Place.{Place}
-use Rattle.parser.specs.declared.streams.Place.TheVariants as place
+use Rattle.std.specs.Prelude.{ℕ, Result}
+use Rattle.ask.specs.Ask.{Answer}
+use Rattle.ask.specs.Refusals.{answer}
+use Rattle.ask.specs.declared.refusal.Refusal.{Refusal}
 
-abbrev pub place_says : Place → Answer ℕ
-place_says (place.At p) = accepted p
-place_says (place.Refused n) = refused n
+-- a place in the frame, or a refusal
+abbrev pub place_says : Result ℕ Refusal → Answer ℕ
+place_says r = answer (λ p. p) r

@@ -1,5 +1,5 @@
 -- What the questions of the block report leave, and the answer that they lead to.
-use mathlib.Core.Path.{◌≡◌, refl, ap}
+use mathlib.Core.Path.{◌≡◌, refl, sym, ap}
 use mathlib.Core.Bool.{◌&&◌}
 use mathlib.Core.List.{List}
 use Prim.Native.Nat.{ℕ, zero, suc, ◌*◌, ◌/◌, ◌≤◌, ◌<◌}
@@ -7,9 +7,11 @@ use native.Mathlib.Omega.{arith}
 use lib.Dec.{leb}
 use lib.ListN.{length}
 use borrow.Author.Tests.{leb-true}
-use Rattle.ask.specs.Ask.{Answer, refused, accepted, first_no}
+use Rattle.ask.specs.Ask.{refused, accepted, first_no}
 use Rattle.ask.specs.Numbers.{no_code}
 use Rattle.ask.specs.Limits.{stride_max, stride_ok, start_max, start_ok, ac_read_ok}
+use Rattle.ask.specs.Refusals.{number_of}
+use Rattle.ask.specs.declared.refusal.Refusal.{Refusal}
 use Rattle.ask.proofs.FirstNo.{passed, left_yes}
 use Rattle.bits.specs.Bits.{bit_at}
 use Rattle.bits.specs.Lay.{lay}
@@ -18,7 +20,7 @@ use Rattle.calls.specs.Grid.{blocks_of}
 use Rattle.calls.specs.Questions.{report_questions}
 use Rattle.calls.specs.Previews.{Reported, reported_by, block_report}
 use Rattle.calls.specs.Told.{refusal, acceptance}
-use Rattle.calls.proofs.Told.{told_refused, told_accepted}
+use Rattle.calls.proofs.Told.{some, told_refused, told_accepted}
 use Rattle.calls.proofs.Legal.{stride_legal}
 use Rattle.acread.specs.through.Through.{reports_of, ac_end}
 use Rattle.preview.specs.report.Report.{report_told}
@@ -29,10 +31,10 @@ pub record Yes (stride : ℕ) (report : List ℕ) (at : ℕ) : Type 0 where
   pub room : stride / 4 ≤ length report
   pub start : at ≤ start_max
 
-pub yes : (stride : ℕ) (report : List ℕ) (bytes at : ℕ) → first_no (report_questions stride report bytes at) ≡ 0 → Yes stride report at
+pub yes : (stride : ℕ) (report : List ℕ) (bytes at : ℕ) → 0 ≡ first_no (report_questions stride report bytes at) → Yes stride report at
 unfolding report_questions
 yes stride report bytes at e =
-    let q4 = passed (stride_ok stride) 3 _ e in
+    let q4 = passed (stride_ok stride) 3 _ (sym e) in
     let q5 = passed (leb (stride / 4) (length report)) 4 _ q4.1 in
     let q7 = passed (start_ok at && ac_read_ok bytes) 6 _ q5.1 in
     record {
@@ -56,18 +58,18 @@ by_end at report bad_blocks e f = absurd (let k : ◌≡◌ {A = ℕ} 0 1 = cc i
 by_end at report (blocks bs a b) {q} {l} e f = cc
 
 module _ (stride : ℕ) (report ac : List ℕ) (at : ℕ) where
-  pub answer_no : {n : ℕ} → n ≡ first_no (report_questions stride report (length ac) at) → 0 < n
-      → refusal (record { number = n; at = at; report = report }) ≡ report_told (block_report stride report ac at)
+  pub answer_no : (e : Refusal) → number_of e ≡ first_no (report_questions stride report (length ac) at)
+      → refusal (record { number = number_of e; at = at; report = report }) ≡ report_told (block_report stride report ac at)
   unfolding block_report
-  answer_no e h = told_refused (λ (k : Reported). k.number) (by_number_lem _ at report (read_blocks (blocks_of stride) (bit_at ac) (8 * at) 0) e h) h
+  answer_no e h = told_refused (λ (k : Reported). k.number) (by_number_lem _ at report (read_blocks (blocks_of stride) (bit_at ac) (8 * at) 0) h (some e)) (some e)
 
-  module _ (y : first_no (report_questions stride report (length ac) at) ≡ 0) where
+  module _ (y : 0 ≡ first_no (report_questions stride report (length ac) at)) where
     pub answer_bad : refused no_code ≡ ac_end (read_blocks (2 * (stride / 8)) (bit_at ac) (8 * at) 0)
         → refusal (record { number = no_code; at = at; report = report }) ≡ report_told (block_report stride report ac at)
     unfolding block_report
-    answer_bad e = told_refused (λ (k : Reported). k.number) (rw y (by_bad at report (read_blocks (2 * (stride / 8)) (bit_at ac) (8 * at) 0) e)) (omega arith)
+    answer_bad e = told_refused (λ (k : Reported). k.number) (rw (← y) (by_bad at report (read_blocks (2 * (stride / 8)) (bit_at ac) (8 * at) 0) e)) (omega arith)
 
     pub answer_end : {q : ℕ} {l : List ℕ} → accepted q ≡ ac_end (read_blocks (2 * (stride / 8)) (bit_at ac) (8 * at) 0)
         → l ≡ lay report 0 (reports_of (read_blocks (2 * (stride / 8)) (bit_at ac) (8 * at) 0)) → acceptance (record { number = 0; at = q; report = l }) ≡ report_told (block_report stride report ac at)
     unfolding block_report
-    answer_end e f = told_accepted (λ (k : Reported). k.number) (rw y (by_end at report (read_blocks (2 * (stride / 8)) (bit_at ac) (8 * at) 0) e f)) refl
+    answer_end e f = told_accepted (λ (k : Reported). k.number) (rw (← y) (by_end at report (read_blocks (2 * (stride / 8)) (bit_at ac) (8 * at) 0) e f)) refl

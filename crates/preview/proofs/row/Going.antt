@@ -1,15 +1,13 @@
 -- The loop over a row of blocks: what is still to be read from here gives what the whole gives.
-use mathlib.Core.Path.{◌≡◌, refl, sym, ap, ap₂, subst, ◌∙◌}
+use mathlib.Core.Path.{◌≡◌, refl, sym, ap, ◌∙◌}
 use mathlib.Core.Bool.{true}
 use mathlib.Core.List.{List, [], ◌∷◌, ◌++◌, append_assoc}
-use Prim.Native.Nat.{ℕ, zero, suc, ◌+◌, ◌-◌, ◌*◌, ◌^◌, ◌≤◌, ◌<◌}
-use native.Mathlib.Nat.{add-zero, zero-add}
+use Prim.Native.Nat.{ℕ, suc, ◌+◌, ◌-◌, ◌*◌, ◌≤◌, ◌<◌}
 use native.Mathlib.Omega.{arith}
 use lib.IntN.{ℤ, pos}
 use lib.ListN.{length, set, length-append}
 use mir.Syntax.{w16}
 use mir.Val.{SFits}
-use Rattle.ask.specs.Ask.{Answer, refused, accepted}
 use Rattle.scalar.specs.Scalar.{add_of}
 use Rattle.bits.specs.Bits.{bit_at}
 use Rattle.bits.specs.Lay.{lay}
@@ -20,10 +18,9 @@ use Rattle.bitreader.specs.declared.Got.{Got}
 use Rattle.calls.specs.ReadPlane.{read_steps, settle}
 use Rattle.blockread.specs.dc.Steps.{byte_of, bytes_from}
 use Rattle.preview.specs.row.Row.{RowDone}
-use Rattle.preview.specs.declared.row.RowEnd.{RowEnd}
 use Rattle.blockread.proofs.dc.Steps.{bytes_next}
 use Rattle.acread.specs.through.Codes.{step_of, good_steps, dc_bit}
-use Rattle.acread.proofs.through.Codes.{good_by, bit_next, steps_bad, some, none_bit}
+use Rattle.acread.proofs.through.Codes.{good_by, bit_next, some}
 
 -- k of the n blocks of a row are stored
 pub record Row (s : List ℕ) (shift : ℕ) (level : ℤ) (n p : ℕ) (before : ℤ) (out : List ℕ) (c : AcCursor) (last : ℤ) (k : ℕ) (now : List ℕ) : Type 0 where

@@ -1,24 +1,24 @@
 -- Two rows of blocks, one after the other.
 use mathlib.Core.Path.{◌≡◌, refl, sym, ap, ap₂, subst, ◌∙◌}
-use mathlib.Core.Bool.{true, false}
+use mathlib.Core.Bool.{true}
 use mathlib.Core.List.{List, [], ◌++◌, map, append-nil}
 use Prim.Native.Nat.{ℕ, ◌+◌, ◌*◌}
 use native.Mathlib.Omega.{arith}
 use lib.IntN.{ℤ, pos}
-use lib.ListN.{length, take, drop, replicate}
+use lib.ListN.{take, drop, replicate}
 use lib.Seq.{take_at, drop_at}
-use Rattle.ask.specs.Ask.{Answer, refused, accepted}
+use Rattle.ask.specs.Ask.{accepted}
 use Rattle.bits.specs.Bits.{bit_at, bytes_for}
 use Rattle.bits.specs.Lay.{lay}
 use Rattle.calls.specs.Arguments.{eight}
-use Rattle.calls.specs.ReadPlane.{DcSteps, bad_steps, dc_steps, read_steps, predicted}
+use Rattle.calls.specs.ReadPlane.{DcSteps, read_steps, predicted}
 use Rattle.calls.specs.Grid.{level}
 use Rattle.calls.specs.Previews.{preview_byte, preview_bytes}
 use Rattle.blockread.specs.dc.Steps.{byte_of, step_list, bytes_from}
 use Rattle.preview.specs.row.Row.{RowDone, Stored}
 use Rattle.preview.specs.declared.row.RowEnd.{RowEnd}
 use Rattle.blockread.proofs.dc.Steps.{none_bytes}
-use Rattle.acread.specs.through.Codes.{good_steps, dc_bit, in_bytes, dc_end}
+use Rattle.acread.specs.through.Codes.{good_steps, dc_bit, in_bytes}
 use Rattle.acread.proofs.through.Codes.{good_by, none_bit}
 
 -- the bytes in the two forms

@@ -4,11 +4,11 @@ use mathlib.Core.Bool.{true, false}
 use Prim.Native.Nat.{ℕ, zero, suc, ◌%◌, ◌≤◌, ◌<◌}
 use native.Mathlib.Omega.{arith}
 use lib.IntN.{ℤ, pos, negsuc, neg_ℤ, nat_abs}
-use lib.Signed.{mag, lt_z}
+use lib.Signed.{lt_z}
 use borrow.Author.Tests.{ltb-true}
 use borrow.Author.Rules.{sfits_of}
 use mir.Syntax.{w16}
-use mir.Val.{SFits, Fits, to_z, of_z}
+use mir.Val.{SFits, Fits, of_z}
 use mir.Facts.{of_z-to_z}
 use Rattle.scalar.specs.Scalar.{abs_of, wrap16}
 use Rattle.quant.specs.one.Sign.{with_sign}

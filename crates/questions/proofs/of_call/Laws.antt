@@ -5,10 +5,10 @@ use mathlib.Core.List.{List, [], ◌∷◌, map}
 use Prim.Native.Nat.{ℕ, zero, suc, ◌+◌, ◌*◌, ◌/◌, ◌≤◌}
 use native.Mathlib.Omega.{arith}
 use lib.Dec.{leb}
-use lib.ListN.{length, take, get_or}
+use lib.ListN.{length, take}
 use Rattle.ask.specs.Ask.{ask, first_no}
 use Rattle.ask.specs.Numbers.{no_plane, no_stride, no_rows, no_room}
-use Rattle.ask.specs.Limits.{stride_ok, rows_needed}
+use Rattle.ask.specs.Limits.{rows_needed}
 use Rattle.calls.specs.Arguments.{Settings, Plane, plane, Call, settings_of, planes_of, PerStream}
 use Rattle.calls.specs.Questions.{preset_question, shift_question, which_planes_ok, each, strides_ok, rows_ok, together, fits, coding_starts_question, reading_starts_question, reading_questions}
 use Rattle.calls.proofs.Legal.{first_stride, other_strides}

@@ -2,11 +2,14 @@
 use mathlib.Core.Path.{◌≡◌, refl, sym, ap, ◌∙◌}
 use mathlib.Core.Bool.{true}
 use mathlib.Core.List.{List, [], ◌∷◌}
-use Prim.Native.Nat.{ℕ, zero, suc, ◌*◌, ◌/◌, ◌≤◌, ◌<◌}
+use Prim.Native.Nat.{ℕ, zero, suc, ◌*◌, ◌/◌, ◌≤◌}
 use native.Mathlib.Omega.{arith}
 use lib.ListN.{length, take}
-use Rattle.ask.specs.Ask.{Question, refused, accepted, first_no, asked}
+use Rattle.ask.specs.Ask.{Question, refused, accepted, first_no}
 use Rattle.ask.specs.Limits.{stride_ok, count_ok, dc_block_bytes, ac_block_bytes, dc_column_bytes, ac_column_bytes}
+use Rattle.ask.specs.Refusals.{number_of}
+use Rattle.ask.specs.declared.refusal.Refusal.{Refusal}
+use Rattle.ask.proofs.Asked.{asked_no, asked_yes}
 use Rattle.ask.proofs.FirstNo.{passed}
 use Rattle.calls.specs.Arguments.{eight, settings, Plane, PerStream, settings, eight}
 use Rattle.calls.specs.Grid.{blocks_of}
@@ -14,25 +17,16 @@ use Rattle.calls.specs.Questions.{strides_ok, lengths_at_most, together, plane_s
 use Rattle.calls.specs.Previews.{plane_size, slice_size, lengths_of_all, of_stride, first_of_four}
 use Rattle.calls.proofs.Legal.{stride_legal}
 use Rattle.slice.specs.Room.{room_for_all}
-use Rattle.questions.specs.four.Firsts.{of_four, all_of, sum_of}
+use Rattle.questions.specs.four.Firsts.{all_of, sum_of}
 use Rattle.questions.specs.order.Order.{room_of}
 use Rattle.questions.specs.of_call.Numbers.{columns_in}
 use Rattle.questions.proofs.of_call.Laws.{each_take, columns_take, columns_le, room_is}
 
-refused_by : {n : ℕ} (qs : List Question) (lengths : PerStream) → n ≡ first_no qs → 0 < n → refused n ≡ asked qs (accepted lengths)
-unfolding asked
-refused_by {n = zero} qs lengths e h = absurd (omega arith)
-refused_by {n = suc n} qs lengths e h = rw (← e) refl
-
-sized_by : {n : ℕ} (qs : List Question) (l lengths : PerStream) → n ≡ first_no qs → n ≡ 0 → l ≡ lengths → accepted l ≡ asked qs (accepted lengths)
-unfolding asked
-sized_by qs l lengths e h f = rw (sym e ∙ h, f)
-
 -- ---- one plane
-module _ (stride : ℕ) {n : ℕ} (e : n ≡ first_no (plane_size_questions stride)) where
-  pub plane_refused : 0 < n → refused n ≡ plane_size stride
+module _ (stride : ℕ) where
+  pub plane_no : (e : Refusal) → number_of e ≡ first_no (plane_size_questions stride) → refused (number_of e) ≡ plane_size stride
   unfolding plane_size
-  plane_refused h = refused_by (plane_size_questions stride) (lengths_at_most stride) e h
+  plane_no e h = asked_no (plane_size_questions stride) (accepted (lengths_at_most stride)) e h
 
   plane_lengths : room_of (stride / 8) ≡ lengths_at_most stride
   plane_lengths =
@@ -40,13 +34,13 @@ module _ (stride : ℕ) {n : ℕ} (e : n ≡ first_no (plane_size_questions stri
       let a : ac_column_bytes * (stride / 8) ≡ ac_block_bytes * blocks_of stride = omega arith in
       λ i. record { dc = d i; ac = a i }
 
-  pub plane_sized : n ≡ 0 → accepted (room_of (stride / 8)) ≡ plane_size stride
+  pub plane_sized : {l : PerStream} → l ≡ room_of (stride / 8) → 0 ≡ first_no (plane_size_questions stride) → accepted l ≡ plane_size stride
   unfolding plane_size
-  plane_sized h = sized_by (plane_size_questions stride) (room_of (stride / 8)) (lengths_at_most stride) e h plane_lengths
+  plane_sized r h = ap accepted (r ∙ plane_lengths) ∙ sym (asked_yes (plane_size_questions stride) (accepted (lengths_at_most stride)) h)
 
-  pub plane_columns : n ≡ 0 → stride / 8 ≤ 960
+  pub plane_columns : 0 ≡ first_no (plane_size_questions stride) → stride / 8 ≤ 3840
   unfolding plane_size_questions
-  plane_columns h = omega (arith, (stride_legal stride (passed (stride_ok stride) 3 [] (sym e ∙ h)).0).stride_le)
+  plane_columns h = omega (arith, (stride_legal stride (passed (stride_ok stride) 3 [] (sym h)).0).stride_le)
 
 -- ---- a slice
 take_le : (n : ℕ) (ps : List Plane) → length (take n ps) ≤ length ps
@@ -68,21 +62,23 @@ module _ (n s0 s1 s2 s3 : ℕ) where
   columns : sum_of (take n (s0 / 8 ∷ s1 / 8 ∷ s2 / 8 ∷ s3 / 8 ∷ [])) ≡ columns_in (first_of_four n s0 s1 s2 s3)
   columns = columns_take n four
 
-  module _ {m : ℕ} (e : m ≡ first_no (slice_size_questions n (first_of_four n s0 s1 s2 s3))) where
-    pub slice_refused : 0 < m → refused m ≡ slice_size n s0 s1 s2 s3
+  abbrev questions : List Question
+  questions = slice_size_questions n (first_of_four n s0 s1 s2 s3)
+
+  pub slice_no : (e : Refusal) → number_of e ≡ first_no questions → refused (number_of e) ≡ slice_size n s0 s1 s2 s3
+  unfolding slice_size
+  slice_no e h = asked_no questions (accepted (lengths_of_all (first_of_four n s0 s1 s2 s3))) e h
+
+  strides_good : 0 ≡ first_no questions → strides_ok (first_of_four n s0 s1 s2 s3) ≡ true
+  unfolding slice_size_questions
+  strides_good h = (passed (strides_ok (first_of_four n s0 s1 s2 s3)) 3 [] (passed (count_ok n) 2 _ (sym h)).1).0
+
+  module _ {k : ℕ} (g : k ≡ sum_of (take n (s0 / 8 ∷ s1 / 8 ∷ s2 / 8 ∷ s3 / 8 ∷ []))) where
+    pub slice_sized : {l : PerStream} → l ≡ room_of k → 0 ≡ first_no questions → accepted l ≡ slice_size n s0 s1 s2 s3
     unfolding slice_size
-    slice_refused h = refused_by (slice_size_questions n (first_of_four n s0 s1 s2 s3)) (lengths_of_all (first_of_four n s0 s1 s2 s3)) e h
+    slice_sized r h =
+        ap accepted (r ∙ ap room_of (g ∙ columns) ∙ room_is (settings eight 0 0) (first_of_four n s0 s1 s2 s3) ∙ lengths_room (first_of_four n s0 s1 s2 s3))
+        ∙ sym (asked_yes questions (accepted (lengths_of_all (first_of_four n s0 s1 s2 s3))) h)
 
-    strides_good : m ≡ 0 → strides_ok (first_of_four n s0 s1 s2 s3) ≡ true
-    unfolding slice_size_questions
-    strides_good h = (passed (strides_ok (first_of_four n s0 s1 s2 s3)) 3 [] (passed (count_ok n) 2 _ (sym e ∙ h)).1).0
-
-    module _ {k : ℕ} (g : k ≡ sum_of (take n (s0 / 8 ∷ s1 / 8 ∷ s2 / 8 ∷ s3 / 8 ∷ []))) where
-      pub slice_sized : m ≡ 0 → accepted (room_of k) ≡ slice_size n s0 s1 s2 s3
-      unfolding slice_size
-      slice_sized h =
-          sized_by (slice_size_questions n (first_of_four n s0 s1 s2 s3)) (room_of k) (lengths_of_all (first_of_four n s0 s1 s2 s3)) e h
-          (ap room_of (g ∙ columns) ∙ room_is (settings eight 0 0) (first_of_four n s0 s1 s2 s3) ∙ lengths_room (first_of_four n s0 s1 s2 s3))
-
-      pub slice_columns : m ≡ 0 → k ≤ 3840
-      slice_columns h = omega (arith, g ∙ columns, columns_le (first_of_four n s0 s1 s2 s3) (strides_good h), take_le n four)
+    pub slice_columns : 0 ≡ first_no questions → k ≤ 3840
+    slice_columns h = omega (arith, g ∙ columns, columns_le (first_of_four n s0 s1 s2 s3) (strides_good h), take_le n four)

@@ -1,9 +1,13 @@
 -- What an answer of the size calls says: document 01's number, or the lengths.
-use Rattle.ask.specs.Ask.{Answer, refused, accepted}
+use Rattle.std.specs.Prelude.{Result}
+use Rattle.ask.specs.Ask.{Answer}
+use Rattle.ask.specs.Refusals.{answer}
+use Rattle.ask.specs.declared.refusal.Refusal.{Refusal}
 use Rattle.calls.specs.Arguments.{PerStream}
-use Rattle.questions.specs.declared.answers.SizeAnswer.{SizeAnswer}
-use Rattle.questions.specs.declared.answers.SizeAnswer.TheVariants as answer
+use Rattle.questions.specs.declared.answers.Lengths.{Lengths}
 
-abbrev pub size_says : SizeAnswer → Answer PerStream
-size_says (answer.Refused n) = refused n
-size_says (answer.Sized d a) = accepted (record { dc = d; ac = a })
+abbrev pub lengths_said : Lengths → PerStream
+lengths_said l = record { dc = l.dc; ac = l.ac }
+
+abbrev pub size_says : Result Lengths Refusal → Answer PerStream
+size_says r = answer lengths_said r

@@ -1,59 +1,37 @@
 -- `views::all_views`: the table's question, the header's, then the walks.
-use mathlib.Core.Path.{sym, ap, ap₂, ◌∙◌}
+use mathlib.Core.Path.{refl, ap, ◌∙◌}
 use lib.ListN.{length}
 use Rattle.ask.specs.Ask.{accepted}
-use Rattle.parser.proofs.head.Laws.{legal}
-use Rattle.views.specs.Table.{views_as, with_table}
-use Rattle.views.specs.both.Views.{walked_says}
-use Rattle.views.proofs.Laws.{views_no, views_yes}
+use Rattle.ask.proofs.Asked.{exit}
+use Rattle.views.specs.Table.{views_as}
+use Rattle.views.proofs.Laws.{views_no, views_yes, tabled}
 use Rattle.views.proofs.all_views.Goals as goal
 
 pub walk_any-requires : goal.walk_any-requires
 walk_any-requires c =
     let a = c.args in
-    let y = views_yes a.width a.height a.frame.now (length a.table.now) c.views_number-x.ensures c.if-x-gt0.false in
-    record { yes = y.header; room = y.enough }
+    let y = views_yes a.width a.height a.frame.now (length a.table.now) c.in_ok-size.ensures.asked in
+    let l = c.in_ok-size.ensures.legal in
+    rw (l.0, l.1) (record { yes = y.header; room = y.enough })
 
-pub header_of-requires : goal.header_of-requires
-header_of-requires c =
+pub returns-in_err-size : goal.returns-in_err-size
+returns-in_err-size c =
     let a = c.args in
-    let y = views_yes a.width a.height a.frame.now (length a.table.now) c.views_number-x.ensures c.if-x-gt0.false in
-    (legal a.width a.height a.frame.now y.header).five
+    let no = views_no a.width a.height a.frame.now (length a.table.now) _ c.in_err-size.ensures.asked in
+    rw no (ap (λ x. views_as x a.table.now) (exit _ c.from_residual.result _ c.from_residual.ensures.1 refl))
 
-pub header_of-requires-in-Both : goal.header_of-requires-in-Both
-header_of-requires-in-Both c =
+pub returns-in_err-ac : goal.returns-in_err-ac
+returns-in_err-ac c =
     let a = c.args in
-    let y = views_yes a.width a.height a.frame.now (length a.table.now) c.views_number-x.ensures c.if-x-gt0.false in
-    (legal a.width a.height a.frame.now y.header).five
+    let y = views_yes a.width a.height a.frame.now (length a.table.now) c.in_ok-size.ensures.asked in
+    let l = c.in_ok-size.ensures.legal in
+    ap (λ x. views_as x c.walk_any.new.table) (exit _ c.from_residual-in_err-ac.result _ c.from_residual-in_err-ac.ensures.1 refl)
+    ∙ tabled a.width a.height a.frame.now a.table.now l.0 l.1 y.is c.in_err-ac.ensures
 
-pub returns-then-x-gt0 : goal.returns-then-x-gt0
-returns-then-x-gt0 c =
+pub returns : goal.returns
+returns c =
     let a = c.args in
-    rw (views_no a.width a.height a.frame.now (length a.table.now) c.views_number-x.ensures c.if-x-gt0.true)
-
-pub returns-in-Refused : goal.returns-in-Refused
-returns-in-Refused c =
-    let a = c.args in
-    let y = views_yes a.width a.height a.frame.now (length a.table.now) c.views_number-x.ensures c.if-x-gt0.false in
-    ap₂ views_as
-    (sym (sym c.walk_any.ensures.says ∙ ap (walked_says a.height a.frame.now) c.in-Refused.is))
-    c.walk_any.ensures.leaves
-    ∙ sym (ap (with_table a.width a.height a.frame.now a.table.now) y.is)
-
-pub returns-in-DcOnly : goal.returns-in-DcOnly
-returns-in-DcOnly c =
-    let a = c.args in
-    let y = views_yes a.width a.height a.frame.now (length a.table.now) c.views_number-x.ensures c.if-x-gt0.false in
-    ap₂ views_as
-    (ap accepted c.header_of.ensures ∙ sym (sym c.walk_any.ensures.says ∙ ap (walked_says a.height a.frame.now) c.in-DcOnly.is))
-    c.walk_any.ensures.leaves
-    ∙ sym (ap (with_table a.width a.height a.frame.now a.table.now) y.is)
-
-pub returns-in-Both : goal.returns-in-Both
-returns-in-Both c =
-    let a = c.args in
-    let y = views_yes a.width a.height a.frame.now (length a.table.now) c.views_number-x.ensures c.if-x-gt0.false in
-    ap₂ views_as
-    (ap accepted c.header_of-in-Both.ensures ∙ sym (sym c.walk_any.ensures.says ∙ ap (walked_says a.height a.frame.now) c.in-Both.is))
-    c.walk_any.ensures.leaves
-    ∙ sym (ap (with_table a.width a.height a.frame.now a.table.now) y.is)
+    let y = views_yes a.width a.height a.frame.now (length a.table.now) c.in_ok-size.ensures.asked in
+    let l = c.in_ok-size.ensures.legal in
+    ap (λ x. views_as (accepted x) c.walk_any.new.table) c.header_of.ensures
+    ∙ tabled a.width a.height a.frame.now a.table.now l.0 l.1 y.is c.in_ok-ac.ensures

@@ -4,12 +4,11 @@ use mathlib.Core.List.{List, [], ◌∷◌, ◌++◌}
 use Prim.Native.Nat.{ℕ, zero, suc, ◌+◌, ◌-◌, ◌*◌, ◌≤◌, ◌<◌}
 use native.Mathlib.Omega.{arith}
 use native.Mathlib.Numerals.{add-one}
-use lib.ListN.{length, take, drop, set, get_or, length-append, take-append-drop}
+use lib.ListN.{length, take, drop, length-append, take-append-drop}
 use lib.Seq.{drop-drop, length-take-le}
 use Rattle.ask.specs.Ask.{Answer, refused, accepted, and_then}
 use Rattle.bits.specs.Lay.{lay}
 use Rattle.bits.proofs.LayLaw.{lay_none, lay_lay, lay_drop}
-use Rattle.copy.proofs.Laws.{copied, no_copy}
 use Rattle.parser.specs.streams.Streams.{length_at, one_stream, streams}
 use Rattle.parser.proofs.streams.Laws.{one_end}
 use Rattle.parser.specs.Frame.{View, nth_stream}
@@ -47,15 +46,6 @@ one_more l i view k {xs = xs} h p q e f =
 pub no_view : (l : List ℕ) (i : ℕ) (view : ℕ → Answer View) → l ≡ lay l i (views_of view 0)
 unfolding views_of
 no_view l i view = sym (lay_none l i)
-
--- ---- one number copied after the other
-pub copy_more : (l h : List ℕ) (k : ℕ) {x : List ℕ} → k < length l → k < length h → x ≡ lay l 0 (take k h) → set x k (get_or h k 0) ≡ lay l 0 (take (k + 1) h)
-copy_more l h k {x} r s e =
-    let i : k ≡ 0 + k = omega arith in
-    ap₂ (λ (i j : ℕ). set x i (get_or h j 0)) i i ∙ copied l 0 h 0 k (omega arith) (omega arith) e
-
-pub none_copied : (l h : List ℕ) → l ≡ lay l 0 (take 0 h)
-none_copied l h = no_copy l 0 h 0
 
 -- ---- numbers copied over what was stored: as if nothing had been stored
 pub over : (t : List ℕ) (i : ℕ) (xs ys : List ℕ) → i + length xs ≤ length ys → i ≤ length t → lay (lay t i xs) 0 ys ≡ lay t 0 ys

@@ -1,18 +1,16 @@
 -- What the code's type says, in the definitions' terms.
-use Rattle.std.specs.Prelude.{true, false, List, ◌≡◌, ℕ, ◌*◌, ◌≤◌, length, take}
-use Rattle.ask.specs.Ask.{Answer, refused, accepted, first_no}
+use Rattle.std.specs.Prelude.{Bool, Result, List, ◌≡◌, ℕ, ◌*◌, ◌≤◌, length, take}
+use Rattle.ask.specs.Ask.{Answer, first_no}
+use Rattle.ask.specs.Refusals.{answer}
+use Rattle.ask.specs.declared.refusal.Refusal.{Refusal}
 use Rattle.layout.specs.Geometry.{slice_count}
 use Rattle.parser.specs.head.Header.{header_questions, FrameRead, frame_read}
 use Rattle.parser.specs.Frame.{parse_of}
 use Rattle.views.specs.both.Table.{all_views, table_left}
-use Rattle.views.specs.declared.both.Walked.{Walked}
-use Rattle.views.specs.declared.both.Walked.TheVariants as walked
 
--- of a frame with a legal header
-abbrev pub walked_says : ℕ → List ℕ → Walked → Answer FrameRead
-walked_says h f walked.Both = accepted (frame_read h f true)
-walked_says h f walked.DcOnly = accepted (frame_read h f false)
-walked_says h f (walked.Refused n) = refused n
+-- of a frame with a legal header: whether AC streams follow
+abbrev pub walked_says : ℕ → List ℕ → Result Bool Refusal → Answer FrameRead
+walked_says h f r = answer (λ ac. frame_read h f ac) r
 
 -- such a walk's answer, and the table that it leaves
 pub record Tabled (w h : ℕ) (f table left : List ℕ) (a : Answer FrameRead) : Type 0 where

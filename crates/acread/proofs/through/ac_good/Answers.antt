@@ -1,25 +1,11 @@
 -- `acread::through::ac_good`: clean by the scan, or by the answer of the read-through.
 use mathlib.Core.Path.{sym, ◌∙◌}
 use Prim.Native.Nat.{◌*◌}
-use native.Mathlib.Omega.{arith}
-use Rattle.bits.specs.Bits.{bit_at}
-use Rattle.calls.specs.ReadPlane.{read_blocks}
+use Rattle.std.proofs.Common.{rules}
 use Rattle.acread.proofs.through.Ends.{clean_blocks}
-use Rattle.acread.proofs.through.Blocks.{good_end, bad_end}
 use Rattle.acread.proofs.through.ac_good.Goals as goal
 
 pub returns-then-no_six_zeros : goal.returns-then-no_six_zeros
 returns-then-no_six_zeros c =
-    let n = c.before in
-    let a = n.before.before.args in
-    sym (clean_blocks a.ac.now (λ j. omega (arith, n.before.shared_slice_known-1.given j)) a.at (sym n.no_six_zeros.ensures ∙ c.if-no_six_zeros.true) (2 * a.columns))
-
-pub returns-in-At : goal.returns-in-At
-returns-in-At c =
     let a = c.args in
-    sym (good_end (read_blocks (2 * a.columns) (bit_at a.ac.now) (8 * a.at) 0) c.in-At.ensures)
-
-pub returns-in-Refused : goal.returns-in-Refused
-returns-in-Refused c =
-    let a = c.args in
-    sym (bad_end (read_blocks (2 * a.columns) (bit_at a.ac.now) (8 * a.at) 0) c.in-Refused.ensures)
+    sym (clean_blocks a.ac.now (λ j. search rules) a.at (sym c.no_six_zeros.ensures ∙ c.if-no_six_zeros.true) (2 * a.columns))

@@ -1,11 +1,8 @@
--- `bitreader::words::edge` meets its contract: after k turns w is the first k bytes. Assumes nothing.
+-- After k turns w is the first k bytes. Assumes nothing.
 use mathlib.Core.Path.{◌≡◌}
-use Prim.Native.Nat.{◌-◌, ◌*◌, ◌≤◌}
+use Prim.Native.Nat.{◌*◌}
 use Rattle.bits.specs.Bits.{bit_at, num}
 use Rattle.bitreader.proofs.words.edge.Given as goal
 
 abbrev pub invariant-loop-k : goal.invariant-loop-k
-invariant-loop-k l = (l.w ≡ num (8 * l.k) 0 (bit_at l.s) (8 * l.i)) × (l.k ≤ 8)
-
-abbrev pub decreases-loop-k : goal.decreases-loop-k
-decreases-loop-k l = 8 - l.k
+invariant-loop-k l = l.w ≡ num (8 * l.k) 0 (bit_at l.s) (8 * l.i)

@@ -14,13 +14,13 @@ abbrev pub D : List ℤ → ℕ → List ℤ
 D c r = row_diffs_of (row_of c r)
 
 abbrev pub invariant-loop-h : goal.invariant-loop-h
-invariant-loop-h l = TwoRows (S l.c) l.sums l.p l.h × TwoRows (D l.c) l.diffs l.p l.h
+invariant-loop-h g l = TwoRows (S l.c) l.sums l.p l.h × TwoRows (D l.c) l.diffs l.p l.h
 
 abbrev pub decreases-loop-h : goal.decreases-loop-h
-decreases-loop-h l = 2 - l.h
+decreases-loop-h g l = 2 - l.h
 
 abbrev pub invariant-loop-p : goal.invariant-loop-p
-invariant-loop-p l = RowsPut (S l.c) l.sums (2 * l.p) × RowsPut (D l.c) l.diffs (2 * l.p)
+invariant-loop-p g l = RowsPut (S l.c) l.sums (2 * l.p) × RowsPut (D l.c) l.diffs (2 * l.p)
 
 abbrev pub decreases-loop-p : goal.decreases-loop-p
-decreases-loop-p l = 4 - l.p
+decreases-loop-p g l = 4 - l.p

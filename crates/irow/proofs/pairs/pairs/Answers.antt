@@ -1,7 +1,6 @@
 use borrow.Author.Rules.{sfits_of}
 use native.Mathlib.Omega.{arith}
 use mathlib.Core.Path.{refl}
-use Prim.Native.Nat.{◌-◌}
 use mir.Syntax.{w16, w32}
 use Rattle.scalar.specs.Scalar.{madd_of}
 use Rattle.scalar.proofs.Laws.{lane4}

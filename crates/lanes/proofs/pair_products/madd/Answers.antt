@@ -1,7 +1,6 @@
 use mir.Syntax.{w16, w32}
 use borrow.Author.Rules.{sfits_of}
 use mathlib.Core.Path.{refl}
-use Prim.Native.Nat.{◌-◌}
 use native.Mathlib.Omega.{arith}
 use Prim.Native.Nat.{◌+◌, ◌*◌}
 use Rattle.scalar.specs.Scalar.{madd_of}

@@ -1,48 +1,10 @@
-use mir.Syntax.{w16}
-use borrow.Author.Rules.{sfits_of}
-use mathlib.Core.Path.{refl}
-use Prim.Native.Nat.{◌-◌}
-use native.Mathlib.Omega.{arith}
+use Rattle.std.proofs.Common.{rules, pos}
 use Rattle.scalar.specs.Scalar.{sll_of}
 use Rattle.scalar.specs.Tab.{lane}
-use Rattle.scalar.proofs.Fill.{filled_done}
 use Rattle.lanes.specs.Lanes.{mm_slli_epi16}
-use Rattle.lanes.proofs.Turns.{turn1}
+use Rattle.lanes.proofs.Elements.{by_elements}
 use Rattle.lanes.proofs.shifts.slli16.Goals as goal
-
-pub loop-k-preserved : goal.loop-k-preserved
-loop-k-preserved c =
-    let l = c.before.before.before in
-    let a = l.before.args in
-    turn1 {w = w16} {v = w16} 8 (λ x. sll_of x a.n) a.a l.loop-k.r l.loop-k.k (omega arith) l.loop-k.invariant (sfits_of c.before.sll16-arg-1.given) (sfits_of c.sll16.type_inv) c.sll16.ensures
 
 pub returns : goal.returns
 unfolding mm_slli_epi16
-returns c =
-    let l = c.before in
-    let a = l.before.args in
-    filled_done 8 (λ i. sll_of (lane a.a i) a.n) l.loop-k.r l.loop-k.k (omega arith) l.loop-k.invariant
-
-pub loop-k-init : goal.loop-k-init
-loop-k-init c = (omega arith, (refl, refl))
-
-pub offset_bounds-a-k : goal.offset_bounds-a-k
-offset_bounds-a-k c = omega arith
-
-pub bounds-a-k : goal.bounds-a-k
-bounds-a-k c = omega arith
-
-pub sll16-requires : goal.sll16-requires
-sll16-requires c = omega arith
-
-pub offset_bounds-r-k : goal.offset_bounds-r-k
-offset_bounds-r-k c = omega arith
-
-pub bounds-r-k : goal.bounds-r-k
-bounds-r-k c = omega arith
-
-pub overflow_step-k : goal.overflow_step-k
-overflow_step-k c = omega arith
-
-pub loop-k-smaller : goal.loop-k-smaller
-loop-k-smaller c = omega arith
+returns c = by_elements (pos 0) 8 {f = λ k. sll_of (lane c.args.a k) c.args.n} c.map1.result (search rules) (λ k h. let m = c.map1.ensures k (pos 0) (pos 0) h in search rules)

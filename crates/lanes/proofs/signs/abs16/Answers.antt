@@ -1,48 +1,8 @@
-use mir.Syntax.{w16}
-use borrow.Author.Rules.{sfits_of}
-use mathlib.Core.Path.{refl}
-use Prim.Native.Nat.{◌-◌}
-use native.Mathlib.Omega.{arith}
-use Rattle.scalar.specs.Scalar.{abs_of}
-use Rattle.scalar.specs.Tab.{lane}
-use Rattle.scalar.proofs.Fill.{filled_done}
+use Rattle.std.proofs.Common.{rules, pos}
 use Rattle.lanes.specs.Lanes.{mm_abs_epi16}
-use Rattle.lanes.proofs.Turns.{turn1}
+use Rattle.lanes.proofs.Elements.{by_elements}
 use Rattle.lanes.proofs.signs.abs16.Goals as goal
-
-pub loop-k-preserved : goal.loop-k-preserved
-loop-k-preserved c =
-    let l = c.before.before.before in
-    let a = l.before.args in
-    turn1 {w = w16} {v = w16} 8 abs_of a.a l.loop-k.r l.loop-k.k (omega arith) l.loop-k.invariant (sfits_of c.before.abs1-arg-1.given) (sfits_of c.abs1.type_inv) c.abs1.ensures
 
 pub returns : goal.returns
 unfolding mm_abs_epi16
-returns c =
-    let l = c.before in
-    let a = l.before.args in
-    filled_done 8 (λ i. abs_of (lane a.a i)) l.loop-k.r l.loop-k.k (omega arith) l.loop-k.invariant
-
-pub loop-k-init : goal.loop-k-init
-loop-k-init c = (omega arith, (refl, refl))
-
-pub offset_bounds-a-k : goal.offset_bounds-a-k
-offset_bounds-a-k c = omega arith
-
-pub bounds-a-k : goal.bounds-a-k
-bounds-a-k c = omega arith
-
-pub abs1-requires : goal.abs1-requires
-abs1-requires c = tt
-
-pub offset_bounds-r-k : goal.offset_bounds-r-k
-offset_bounds-r-k c = omega arith
-
-pub bounds-r-k : goal.bounds-r-k
-bounds-r-k c = omega arith
-
-pub overflow_step-k : goal.overflow_step-k
-overflow_step-k c = omega arith
-
-pub loop-k-smaller : goal.loop-k-smaller
-loop-k-smaller c = omega arith
+returns c = by_elements (pos 0) 8 c.map1.result (search rules) (λ k h. c.map1.ensures k (pos 0) (pos 0) h)

@@ -6,7 +6,4 @@ use Rattle.parser.specs.streams.Streams.{streams}
 use Rattle.parser.proofs.streams.walk.Given as goal
 
 abbrev pub invariant-loop-k : goal.invariant-loop-k
-invariant-loop-k l = (l.k ≤ l.n) × ((l.at ≤ length l.f) × (streams l.n l.limit l.f l.p ≡ streams (l.n - l.k) l.limit l.f l.at))
-
-abbrev pub decreases-loop-k : goal.decreases-loop-k
-decreases-loop-k l = l.n - l.k
+invariant-loop-k l = (l.at ≤ length l.f) × (streams l.n l.limit l.f l.p ≡ streams (l.n - l._k) l.limit l.f l.at)

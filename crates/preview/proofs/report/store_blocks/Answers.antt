@@ -1,5 +1,5 @@
 -- `preview::report::store_blocks`: one byte a turn; what is still to be stored from here gives what the whole gives.
-use mathlib.Core.Path.{ap₂, ◌≡◌, refl, sym, ap, subst, ◌∙◌}
+use mathlib.Core.Path.{◌≡◌, refl, sym, ap, subst, ◌∙◌}
 use mathlib.Core.Bool.{true}
 use mathlib.Core.List.{List}
 use Prim.Native.Nat.{suc, ℕ, ◌+◌, ◌-◌, ◌*◌, ◌<◌}
@@ -15,100 +15,55 @@ use Rattle.acread.specs.Going.{LooksFrom}
 use Rattle.acread.specs.through.Through.{block_ends, good_ends, reports_of}
 use Rattle.acread.proofs.Going.{flat_ended}
 use Rattle.acread.proofs.through.Blocks.{end_at}
-use Rattle.acread.proofs.through.Going.{Going, going_start, going_left, going_next, going_over, stored, not_bad, stored_all}
+use Rattle.acread.proofs.through.Going.{Going, going_left, going_next, going_over, stored, not_bad, stored_all}
 use Rattle.acread.specs.declared.BlockEnd.{BlockEnd}
-use Rattle.acread.specs.declared.BlockEnd.TheVariants as block
+use Rattle.std.specs.Prelude.{Option, Some, None}
 use Rattle.preview.proofs.report.store_blocks.Goals as goal
-use Rattle.preview.proofs.report.store_blocks.Goals.{then-pending-lt64+in-At, else-pending-lt64}
+use Rattle.preview.proofs.report.store_blocks.Goals.{then-pending-lt64+in-Some, else-pending-lt64}
 
-pub overflow_mul-at : goal.overflow_mul-at
-overflow_mul-at c = omega arith
-
-pub cursor-c-requires : goal.cursor-c-requires
-cursor-c-requires c = omega arith
-
-pub loop-i-init : goal.loop-i-init
-loop-i-init c =
-    let s = c in
-    let a = s.args in
-    let r = c.cursor-c in
-    let z : a.n ≡ a.n - 0 = omega arith in (
-      omega arith,
-      refl,
-      going_left (a.n - 0) z (going_start a.ac.now (8 * a.at) a.n r.result r.ensures.0 r.ensures.1),
-      ap₂ (λ (x y : ℕ). lay a.report.now 0 (reports_of (read_blocks x (bit_at a.ac.now) y 0))) z (sym r.ensures.1),
-      s.requires.2,
-    )
-
-pub bounds-report-i : goal.bounds-report-i
-bounds-report-i c = omega arith
-
-pub skip_block-requires : goal.skip_block-requires
-skip_block-requires c =
-    let i = c.loop-i.invariant in
-    (i.2.holds, omega (arith, i.2.near), i.2.few, i.4)
-
-pub least_after-least-requires : goal.least_after-least-requires
-least_after-least-requires c = omega (arith, c.loop-i.invariant.2.near)
-
-pub shape_of-report-in-Bad : goal.shape_of-report-in-Bad
-shape_of-report-in-Bad c = simp length-set c.loop-i.invariant.1
-
-pub returns-in-Bad : goal.returns-in-Bad
-returns-in-Bad c =
-    let s = c in
-    let a = s.args in
+pub returns-in_default : goal.returns-in_default
+returns-in_default c =
+    let a = c.args in
     let l = c.loop-i in
     let b = c.skip_block in
     let m = a.n - (l.i + 1) in
     let z : a.n - l.i ≡ suc m = omega arith in
-    let e : b.result ≡ block.Bad = cc in
+    let e : b.result ≡ None = cc in
     absurd
-    (not_bad a.ac.now (8 * a.at) a.n l.c l.pending m (going_left (suc m) z l.invariant.2) b.result b.ensures e s.requires.4)
-
-pub overflow_add-i : goal.overflow_add-i
-overflow_add-i c = omega arith
-
-pub loop-i-smaller : goal.loop-i-smaller
-loop-i-smaller c = omega arith
+    (not_bad a.ac.now (8 * a.at) a.n l.c l.pending m (going_left (suc m) z l.invariant.2) b.result b.ensures e c.requires.4)
 
 -- one block more, that ends at d
 module _ (s : List ℕ) (p n : ℕ) (c : AcCursor) (pending m left : ℕ) (z : left ≡ suc m) (i : Going s p n c pending left) (good : good_ends (block_ends (read_blocks n (bit_at s) p 0)) ≡ true)
     (l : List ℕ) (j : ℕ) (h : j < length l) (v : ℕ) (w : v ≡ flat_byte pending) where
-  next : (e : BlockEnd) → BlockEnded s c.pos pending e → (d : AcCursor) (k : ℕ) → e ≡ block.At d k → (d' : AcCursor) (k' : ℕ) → d' ≡ d → k' ≡ k
+  next : (o : Option BlockEnd) → BlockEnded s c.pos pending o → (d : BlockEnd) → o ≡ Some d → (d' : AcCursor) (k' : ℕ) → d' ≡ d.c → k' ≡ d.pending
       → Going s p n d' k' m
       × (lay l j (reports_of (read_blocks left (bit_at s) c.pos pending)) ≡ lay (set l j v) (j + 1) (reports_of (read_blocks m (bit_at s) d'.pos k')))
-  next e b d k f d' k' x y =
+  next o b d f d' k' x y =
       let g = going_left (suc m) z i in
       rw (x, y) (
-        going_next s p n c pending m g e b d k f,
-        ap (λ (q : ℕ). lay l j (reports_of (read_blocks q (bit_at s) c.pos pending))) z ∙ stored s p n c pending m g e b d k f good l j h w,
+        going_next s p n c pending m g o b d f,
+        ap (λ (q : ℕ). lay l j (reports_of (read_blocks q (bit_at s) c.pos pending))) z ∙ stored s p n c pending m g o b d f good l j h w,
       )
 
 pub loop-i-preserved : goal.loop-i-preserved
 loop-i-preserved c =
-    let s = c in
-    let a = s.args in
+    let a = c.args in
     let l = c.loop-i in
     let m = a.n - (l.i + 1) in
     let z : a.n - l.i ≡ suc m = omega arith in
-    let one = next a.ac.now (8 * a.at) a.n l.c l.pending m (a.n - l.i) z l.invariant.2 s.requires.4 l.report l.i (omega (arith, l.invariant.1)) c.flat.result
+    let one = next a.ac.now (8 * a.at) a.n l.c l.pending m (a.n - l.i) z l.invariant.2 c.requires.4 l.report l.i (omega (arith, l.invariant.1)) c.flat.result
     c.flat.ensures in
     elim c.if-pending-lt64.branch [
-      | then-pending-lt64+in-At w ↦
-          let k = one (block.At w.in-At.d w.in-At.m) w.in-At.ensures w.in-At.d w.in-At.m refl c.if-pending-lt64.c c.if-pending-lt64.pending w.c-is w.pending-is in
-          (omega arith, simp length-set l.invariant.1, k.0, l.invariant.3 ∙ k.1, subst (λ (x : ℕ). LooksFrom x a.tab.now) (sym w.least-is) (w.least_after-least.ensures a.tab.now s.requires.2))
+      | then-pending-lt64+in-Some w ↦
+          let f : w.skip_block.result ≡ Some w.in-Some.end = cc in
+          let k = one w.skip_block.result w.skip_block.ensures w.in-Some.end f c.if-pending-lt64.c c.if-pending-lt64.pending w.c-is w.pending-is in
+          (omega arith, simp length-set l.invariant.1, k.0, l.invariant.3 ∙ k.1, subst (λ (x : ℕ). LooksFrom x a.tab.now) (sym w.least-is) (w.least_after-least.ensures a.tab.now c.requires.2))
       | else-pending-lt64 w ↦
-          let k = one (block.At l.c (l.pending - 64)) (flat_ended a.ac.now l.c l.pending l.invariant.2.holds l.invariant.2.few (omega (arith, w.if-pending-lt64.false))) l.c (l.pending - 64) refl
+          let d : BlockEnd = record { c = l.c; pending = l.pending - 64 } in
+          let k = one (Some d) (flat_ended a.ac.now l.c l.pending l.invariant.2.holds l.invariant.2.few (omega (arith, w.if-pending-lt64.false))) d refl
           c.if-pending-lt64.c c.if-pending-lt64.pending w.c-is w.pending-is in
           (omega arith, simp length-set l.invariant.1, k.0, l.invariant.3 ∙ k.1, subst (λ (x : ℕ). LooksFrom x a.tab.now) (sym w.least-is) l.invariant.4)
     ]
-
-pub end_byte-requires : goal.end_byte-requires
-end_byte-requires c = omega (arith, c.loop-i.invariant.2.near)
-
-pub shape_of-report : goal.shape_of-report
-shape_of-report c = c.loop-i.invariant.1
 
 pub returns : goal.returns
 returns c =

@@ -2,8 +2,6 @@
 use mathlib.Core.Path.{◌≡◌}
 use Prim.Native.Nat.{◌-◌, ◌≤◌}
 use lib.ListN.{length}
-use mir.Syntax.{w16}
-use mir.Val.{to_z}
 use Rattle.preview.proofs.row.Going.{Row}
 use Rattle.preview.proofs.row.preview_row.Given as goal
 

@@ -1,16 +1,17 @@
 -- `questions::four::rows_ok`.
 use mathlib.Core.Path.{◌∙◌}
-use mathlib.Core.List.{[], ◌∷◌}
-use lib.ListN.{take}
-use Rattle.questions.specs.four.Firsts.{all_of}
+use native.Mathlib.Omega.{arith}
+use Rattle.std.proofs.Common.{rules, take, leb, ℕ}
+use Rattle.std.proofs.lemmas.Iterator.{YieldsList-from_slice, YieldsList-from_zip}
+use Rattle.std.proofs.lemmas.Iterator.Search.{all_from_yields_List}
+use borrow.Author.Tests.{tests}
+use Rattle.ask.specs.Limits.{rows_needed}
+use Rattle.questions.proofs.four.Laws.{zip_all_four}
 use Rattle.questions.proofs.four.rows_ok.Goals as goal
 
 pub returns : goal.returns
 returns c =
-    let b3 = c in
-    let b2 = b3 in
-    let b1 = b2 in
-    let b0 = b1 in
-    let n = b0.args.f.count in
-    c.all_ok.ensures
-    ∙ (λ i. all_of (take n (b0.rows_ok-b0.ensures i ∷ b1.rows_ok-b1.ensures i ∷ b2.rows_ok-b2.ensures i ∷ b3.rows_ok-b3.ensures i ∷ [])))
+    let f = c.args.f in
+    all_from_yields_List (λ (p : ℕ × ℕ). leb (rows_needed p.0) p.1) c.all.new.self _ c.all.result c.all.ensures.ran
+    (YieldsList-from_zip {s = c.zip.result} (YieldsList-from_slice (take f.count f.strides) cc) (YieldsList-from_slice c.args.rows cc)) (λ x b q k. search (rules, tests))
+    ∙ zip_all_four (λ s n. leb (rows_needed s) n) f.count f.strides c.args.rows (omega arith) (omega arith)

@@ -1,16 +1,16 @@
 -- `questions::four::strides_ok`.
 use mathlib.Core.Path.{◌∙◌}
-use mathlib.Core.List.{[], ◌∷◌}
-use lib.ListN.{take}
-use Rattle.questions.specs.four.Firsts.{all_of}
+use native.Mathlib.Omega.{arith}
+use Rattle.std.proofs.Common.{rules, take}
+use Rattle.std.proofs.lemmas.Iterator.{YieldsList-from_slice}
+use Rattle.std.proofs.lemmas.Iterator.Search.{all_from_yields_List}
+use borrow.Author.Tests.{tests}
+use Rattle.ask.specs.Limits.{stride_ok}
+use Rattle.questions.proofs.four.Laws.{all_four}
 use Rattle.questions.proofs.four.strides_ok.Goals as goal
 
 pub returns : goal.returns
 returns c =
-    let b3 = c in
-    let b2 = b3 in
-    let b1 = b2 in
-    let b0 = b1 in
-    let n = b0.args.f.count in
-    c.all_ok.ensures
-    ∙ (λ i. all_of (take n (b0.stride_ok-b0.ensures i ∷ b1.stride_ok-b1.ensures i ∷ b2.stride_ok-b2.ensures i ∷ b3.stride_ok-b3.ensures i ∷ [])))
+    let f = c.args.f in
+    all_from_yields_List (λ x. stride_ok x) _ _ c.all.result c.all.ensures.ran (YieldsList-from_slice (take f.count f.strides) cc) (λ x b q k. search (rules, tests))
+    ∙ all_four (λ x. stride_ok x) f.count f.strides (omega arith)

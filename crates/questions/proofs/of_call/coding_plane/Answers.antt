@@ -9,11 +9,8 @@ use Rattle.questions.proofs.of_call.coding_plane.Goals as goal
 
 pub returns : goal.returns
 returns c =
-    let l = c in
-    let s = l in
-    let w = s in
-    let a = w.args in
+    let a = c.args in
     λ depth samples e. c.coding.ensures
-    ∙ coding_is (plane_call depth a.s a.h samples) (lengths_by a.dc a.ac) (starts_by a.dc a.ac) w.place_ok-which.ensures
-    (s.stride_ok-strides.ensures ∙ and_yes (stride_ok a.h.stride))
-    (l.rows_ok-long.ensures ∙ ap (leb (rows_needed a.h.stride)) (sym e) ∙ and_yes _) (omega arith)
+    ∙ coding_is (plane_call depth a.s a.h samples) (lengths_by a.dc a.ac) (starts_by a.dc a.ac) c.place_ok-which.ensures
+    (c.stride_ok-strides.ensures ∙ and_yes (stride_ok a.h.stride))
+    (c.rows_ok-long.ensures ∙ ap (leb (rows_needed a.h.stride)) (sym e) ∙ and_yes _) (omega arith)

@@ -1,35 +1,11 @@
-use borrow.Author.Rules.{rules}
-use mathlib.Core.Path.{refl, ◌∙◌}
-use Prim.Native.Nat.{◌-◌}
-use native.Mathlib.Omega.{arith}
-use lib.ListN.{length-set}
-use Rattle.scalar.proofs.Fill.{fill_next, fill_done}
-use Rattle.tables.specs.Entries.{encode_at, encode_of}
+use Rattle.std.proofs.Common.{rules, ◌≡◌}
+use Rattle.tables.specs.Entries.{constant_table, encode_at, encode_of}
+use Rattle.tables.proofs.Made.{made}
 use Rattle.tables.proofs.reciprocals.Places.{entry_at_lem}
 use Rattle.tables.proofs.reciprocals.encode_numbers.Goals as goal
 
-pub constant_table-t-requires : goal.constant_table-t-requires
-constant_table-t-requires c = tt
-
-pub loop-j-init : goal.loop-j-init
-loop-j-init c = (search rules, (refl, refl))
-
-pub loop-j-preserved : goal.loop-j-preserved
-unfolding encode_of
-loop-j-preserved c = let l = c.before.before.before in
-    let t = l.before in
-    let p = t.before.args.preset in
-    let j = l.loop-j.j in
-    let h = c.before.before.loop-j-test.true in (
-      omega arith,
-      (
-        length-set l.loop-j.k j _ ∙ l.loop-j.invariant.1.0,
-        fill_next 192 (encode_at p) l.loop-j.k j h l.loop-j.invariant.1.0 l.loop-j.invariant.1.1
-            (c.number_in.ensures ∙ rw t.constant_table-t.ensures (entry_at_lem p j t.before.requires h)),
-      ),
-    )
-
 pub returns : goal.returns
 unfolding encode_of
-returns c = let l = c.before in
-    fill_done 192 (encode_at l.before.before.args.preset) l.loop-j.k l.loop-j.j c.loop-j-test.false l.loop-j.invariant.1.0 l.loop-j.invariant.1.1
+returns c =
+    made _ (λ s. (s.0.now ≡ constant_table) × (s.1.now ≡ c.args.preset)) (encode_at c.args.preset) 192
+    (λ p j y q ok l e. (search rules, let h = entry_at_lem c.args.preset j c.requires l in search (rules, h))) c.from_fn.result _ (search rules) 0 c.from_fn.ensures.items

@@ -1,5 +1,4 @@
 -- `views::walk::table::no_views`.
-use borrow.Author.Rules.{rules}
 use mathlib.Core.Path.{◌≡◌, refl, ap, ◌∙◌}
 use native.Mathlib.Omega.{arith}
 use Prim.Native.Nat.{◌+◌}
@@ -13,28 +12,19 @@ use Rattle.views.proofs.walk.Laws.{views_length, one_more, no_view}
 use Rattle.views.proofs.walk.table.no_views.Goals as goal
 
 pub loop-k-init : goal.loop-k-init
-loop-k-init c =
-    let a = c.before.args in
-    (search rules, (refl, no_view a.table.now a.i (λ _. refused no_turn)))
+loop-k-init c = (refl, no_view c.args.table.now c.args.i (λ _. refused no_turn))
 
 pub loop-k-preserved : goal.loop-k-preserved
 loop-k-preserved c =
-    let p = c.before.before in
-    let l = p.before.before.before in
-    let s = l.before.before in
-    let a = s.args in
-    let k = l.loop-k.k in
-    let e = one_more a.table.now a.i (λ _. refused no_turn) k (omega (arith, s.requires)) refl refl l.loop-k.invariant.1.1 p.put_view.ensures in (
-      omega arith,
-      (
-        ap length e ∙ lay_length a.table.now a.i (views_of (λ _. refused no_turn) (k + 1)) (omega (arith, s.requires, views_length (λ _. refused no_turn) (k + 1))),
-        e,
-      ),
+    let a = c.args in
+    let k = c.loop-k.k in
+    let e = one_more a.table.now a.i (λ _. refused no_turn) k (omega (arith, c.requires)) refl refl c.loop-k.invariant.1 c.put_view.ensures in (
+      ap length e ∙ lay_length a.table.now a.i (views_of (λ _. refused no_turn) (k + 1)) (omega (arith, c.requires, views_length (λ _. refused no_turn) (k + 1))),
+      e,
     )
 
 pub returns : goal.returns
 returns c =
-    let l = c.before in
-    let a = l.before.before.args in
-    let e : l.loop-k.k ≡ a.n = omega arith in
-    l.loop-k.invariant.1.1 ∙ ap (λ k. lay a.table.now a.i (views_of (λ _. refused no_turn) k)) e
+    let a = c.args in
+    let e : c.loop-k.k ≡ a.n = omega arith in
+    c.loop-k.invariant.1 ∙ ap (λ k. lay a.table.now a.i (views_of (λ _. refused no_turn) k)) e

@@ -1,9 +1,0 @@
-use mathlib.Core.Bool.{false}
-use Rattle.dct.proofs.Blocks.{core_law}
-use Rattle.dct.proofs.eight.idct_core.Goals as goal
-
-pub returns : goal.returns
-returns c =
-    let b = c.before in
-    let s = b.before.args in
-    core_law false s.d.now s.nat b.dequant-b.ensures c.inverse.ensures

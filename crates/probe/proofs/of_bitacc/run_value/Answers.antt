@@ -1,9 +1,0 @@
-use Rattle.probe_pairs.proofs.Writer.{room_of_lem, both_long}
-use Rattle.probe.proofs.of_bitacc.run_value.Goals as goal
-
-pub put_run_value-requires : goal.put_run_value-requires
-put_run_value-requires c =
-    let t = c in
-    let s = t in
-    let k = t.taken.ensures t.if-taken.true in
-    (k.0, k.1, k.2, room_of_lem s.args.a _ s.args.out.now s.requires (both_long s.args.n s.args.c k.0 k.1 k.2))

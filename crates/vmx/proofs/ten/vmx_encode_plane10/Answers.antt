@@ -1,8 +1,0 @@
--- `vmx::ten::vmx_encode_plane10`.
-use Rattle.calls.proofs.Told.{handed_out}
-use Rattle.vmx.proofs.ten.vmx_encode_plane10.Goals as goal
-
-pub returns : goal.returns
-returns c =
-    let v = c in
-    handed_out _ (c.coded_out.ensures _ _) v.encode_plane-r.ensures
