@@ -1,8 +1,8 @@
 -- One symbol more of a block, and its end.
-use mathlib.Core.Path.{◌≡◌, refl, sym, ap, ◌∙◌, subst}
+use mathlib.Core.Path.{◌≡◌, refl, sym, ap, ◌∙◌}
 use mathlib.Core.Bool.{true}
 use mathlib.Core.List.{List, [], ◌∷◌, ◌++◌, append_assoc}
-use Prim.Native.Nat.{ℕ, suc, ◌+◌, ◌-◌, ◌*◌, ◌^◌, ◌≤◌, ◌<◌}
+use Prim.Native.Nat.{ℕ, suc, ◌+◌, ◌-◌, ◌^◌, ◌≤◌, ◌<◌}
 use native.Mathlib.Omega.{arith}
 use lib.IntN.{ℤ, pos}
 use lib.ListN.{length, set, replicate, length-append, length-replicate, length-set, replicate-append-replicate}
@@ -10,7 +10,8 @@ use lib.Seq.{set_at}
 use Rattle.bits.specs.Bits.{bit_at}
 use Rattle.bits.specs.Read.{run, value, read_symbol}
 use Rattle.bits.specs.Signed.{signed_of}
-use Rattle.bitreader.specs.Cursor.{At, NextSymbol}
+use Rattle.std.specs.Prelude.{Option, Some, None, IsSome}
+use Rattle.bitreader.specs.Cursor.{At, SymbolGot, NextSymbol}
 use Rattle.bitreader.specs.declared.AcCursor.{AcCursor}
 use Rattle.bitreader.specs.declared.Got.{Got}
 use Rattle.bitreader.proofs.Looks.{at_none}
@@ -20,7 +21,7 @@ use Rattle.quant.specs.Quantise.{scan_of}
 use Rattle.quant.proofs.Blocks.{scan_length}
 use Rattle.acplaces.specs.Places.{good_places, Placed}
 use Rattle.acplaces.specs.Going.{behind, Going, Onward}
-use Rattle.acplaces.specs.declared.Stop.{Stop}
+use Rattle.bitreader.specs.declared.Stop.{Stop}
 use Rattle.acplaces.proofs.Scan.{scan_zero, scan_set}
 use Rattle.acplaces.proofs.Symbols.{behind_good, value_by, run_by, zeros_first, value_turn, run_turn, some, over}
 
@@ -118,19 +119,19 @@ module _ (s : List ℕ) (p r : ℕ) (c : AcCursor) (place : ℕ) (nat : List ℤ
           few = omega (arith, y);
         }
 
-  module _ (g : Got) (b : place < 64) (n : NextSymbol s c g) where
-    -- no bad code in the block: there is a number here
-    pub going_some : good_places (read_places 64 (bit_at s) p r) ≡ true → 0 < g.num
-    going_some e =
-        some (bit_at s) place c.pos g.num g.run g.c.pos b n.answer
-        (behind_good i.got (read_places (64 - place) (bit_at s) c.pos (place - 64)) (sym (ap good_places i.same) ∙ e))
+  -- no bad code in the block: there is a symbol here
+  pub going_some : place < 64 → good_places (read_places 64 (bit_at s) p r) ≡ true → (o : Option Got) → NextSymbol s c o → IsSome o
+  going_some b e None n =
+      absurd (some (bit_at s) place c.pos b n (behind_good i.got (read_places (64 - place) (bit_at s) c.pos (place - 64)) (sym (ap good_places i.same) ∙ e)))
+  going_some b e (Some g) n = refl
 
-    pub going_value : 0 < g.num → g.run ≡ 0 → {v : ℤ} → v ≡ signed_of g.num → {j : ℕ} → j ≡ zigzag_at place
+  module _ (g : Got) (b : place < 64) (n : SymbolGot s c g) where
+    pub going_value : g.run ≡ 0 → {v : ℤ} → v ≡ signed_of g.num → {j : ℕ} → j ≡ zigzag_at place
         → Going s p r g.c (place + 1) (set nat j v)
-    going_value z h = by_value b g.c n.next.ready n.next.near g.num (sym (value_by g.num g.run g.c.pos z h) ∙ n.answer)
+    going_value h = by_value b g.c n.next.ready n.next.near g.num (sym (value_by g.num g.run g.c.pos h) ∙ n.answer)
 
-    pub going_run : 0 < g.num → (g.run ≡ 0 → ⊥) → Going s p r g.c (place + g.num) nat
-    going_run z h = by_run b g.c n.next.ready n.next.near g.num (sym (run_by g.num g.run g.c.pos z h) ∙ n.answer) z n.next.small
+    pub going_run : (g.run ≡ 0 → ⊥) → Going s p r g.c (place + g.num) nat
+    going_run h = by_run b g.c n.next.ready n.next.near g.num (sym (run_by g.num g.run g.c.pos h) ∙ n.answer) n.next.more n.next.small
 
   pub going_over : 64 ≤ place → Placed s p r (record { at = c.pos; pending = place - 64 }) nat
   going_over b =

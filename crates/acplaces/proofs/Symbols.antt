@@ -39,15 +39,13 @@ behind_good xs bad_places e = e
 behind_good xs (places cs q r) e = refl
 
 -- the symbol by its head bit
-pub value_by : (n h q : ℕ) → 0 < n → h ≡ 0 → symbol_by n h q ≡ value n q
-value_by zero h q z e = absurd (omega arith)
-value_by (suc n) zero q z e = refl
-value_by (suc n) (suc h) q z e = absurd (omega arith)
+pub value_by : (n h q : ℕ) → h ≡ 0 → symbol_by n h q ≡ value n q
+value_by n zero q e = refl
+value_by n (suc h) q e = absurd (omega arith)
 
-pub run_by : (n h q : ℕ) → 0 < n → (h ≡ 0 → ⊥) → symbol_by n h q ≡ run n q
-run_by zero h q z e = absurd (omega arith)
-run_by (suc n) zero q z e = absurd (e refl)
-run_by (suc n) (suc h) q z e = refl
+pub run_by : (n h q : ℕ) → (h ≡ 0 → ⊥) → symbol_by n h q ≡ run n q
+run_by n zero q e = absurd (e refl)
+run_by n (suc h) q e = refl
 
 module _ (s : Stream) where
   same : (k k' p r r' : ℕ) → k ≡ k' → r ≡ r' → read_places k s p r ≡ read_places k' s p r'
@@ -100,10 +98,9 @@ module _ (s : Stream) where
         ∙ ap (behind (replicate m (pos 0))) (same (suc (63 - place) - n) (64 - (place + n)) q (n - suc (63 - place)) (place + n - 64) (omega arith) (omega arith)))
         ∙ behind_behind got (replicate m (pos 0)) (read_places (64 - (place + n)) s q (place + n - 64))
 
-  -- no bad code in the places: there is a number here
-  pub some : (place p n h q : ℕ) → place < 64 → symbol_by n h q ≡ read_symbol s p → good_places (read_places (64 - place) s p (place - 64)) ≡ true → 0 < n
-  some place p zero h q b e g = absurd (never (sym (ap good_places (at_place place p b ∙ bad_first (63 - place) p e)) ∙ g))
-  some place p (suc n) h q b e g = omega arith
+  -- no bad code in the places: there is a symbol here
+  pub some : (place p : ℕ) → place < 64 → bad_symbol ≡ read_symbol s p → good_places (read_places (64 - place) s p (place - 64)) ≡ true → ⊥
+  some place p b e g = never (sym (ap good_places (at_place place p b ∙ bad_first (63 - place) p e)) ∙ g)
 
   -- the block is over
   pub over : (place p : ℕ) → 64 ≤ place → read_places (64 - place) s p (place - 64) ≡ places [] p (place - 64)

@@ -16,7 +16,7 @@ use Rattle.acpairs.specs.Parts.{taken_of, before_last, places_of, first_value, l
 use Rattle.acpairs.proofs.Held.{held}
 use Rattle.acpairs.proofs.Entry.{entry_bits}
 use Rattle.acplaces.specs.Going.{Going, Onward}
-use Rattle.acplaces.specs.declared.Stop.{Stop}
+use Rattle.bitreader.specs.declared.Stop.{Stop}
 use Rattle.acplaces.proofs.Going.{bare, going_zero, by_value, by_run}
 
 set_twice : (l : List ℤ) (i : ℕ) (v : ℤ) → set (set l i v) i v ≡ set l i v

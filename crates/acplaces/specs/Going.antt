@@ -5,7 +5,7 @@ use Rattle.bitreader.specs.Cursor.{At}
 use Rattle.bitreader.specs.declared.AcCursor.{AcCursor}
 use Rattle.quant.specs.Quantise.{scan_of}
 use Rattle.calls.specs.ReadPlane.{Places, bad_places, places, read_places}
-use Rattle.acplaces.specs.declared.Stop.{Stop}
+use Rattle.bitreader.specs.declared.Stop.{Stop}
 
 -- coefficients before those of the places read
 abbrev pub behind : List ℤ → Places → Places

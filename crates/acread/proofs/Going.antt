@@ -4,7 +4,7 @@ use mathlib.Core.List.{List}
 use Prim.Native.Nat.{ℕ, zero, suc, ◌+◌, ◌-◌, ◌^◌, ◌≤◌, ◌<◌}
 use native.Mathlib.Omega.{arith}
 use Rattle.bits.specs.Bits.{bit_at}
-use Rattle.bitreader.specs.Cursor.{At, NextSymbol}
+use Rattle.bitreader.specs.Cursor.{At, SymbolGot, NextSymbol}
 use Rattle.bitreader.specs.declared.AcCursor.{AcCursor}
 use Rattle.bitreader.specs.declared.Got.{Got}
 use Rattle.calls.specs.ReadPlane.{read_places}
@@ -24,25 +24,25 @@ span_few zero n z f = (omega arith, omega arith)
 span_few (suc h) n z f = (z, f)
 
 -- what a symbol adds to the place
-pub span_some : (s : List ℕ) (c : AcCursor) (g : Got) → NextSymbol s c g → (g.num ≡ 0 → ⊥) → (0 < span_of g.run g.num) × (span_of g.run g.num < 2 ^ 56)
-span_some s c g n z = span_few g.run g.num (omega arith) n.next.small
+pub span_some : (s : List ℕ) (c : AcCursor) (g : Got) → SymbolGot s c g → (0 < span_of g.run g.num) × (span_of g.run g.num < 2 ^ 56)
+span_some s c g n = span_few g.run g.num n.next.more n.next.small
 
-pub going_turn : (s : List ℕ) (p r : ℕ) (c : AcCursor) (place : ℕ) (g : Got) {w : ℕ} → Going s p r c place → place < 64 → NextSymbol s c g → (g.num ≡ 0 → ⊥)
+pub going_turn : (s : List ℕ) (p r : ℕ) (c : AcCursor) (place : ℕ) (g : Got) {w : ℕ} → Going s p r c place → place < 64 → SymbolGot s c g
     → w ≡ span_of g.run g.num → Going s p r g.c (place + w)
-going_turn s p r c place g {w} i b n z e =
-    let f = span_some s c g n z in
+going_turn s p r c place g {w} i b n e =
+    let f = span_some s c g n in
     record {
-      same = i.same ∙ turn (bit_at s) place c.pos g.num g.run g.c.pos b (omega arith) n.answer ∙ ap (λ (x : ℕ). ends_of (read_places (64 - (place + x)) (bit_at s) g.c.pos (place + x - 64))) (sym e);
+      same = i.same ∙ turn (bit_at s) place c.pos g.num g.run g.c.pos b n.next.more n.answer ∙ ap (λ (x : ℕ). ends_of (read_places (64 - (place + x)) (bit_at s) g.c.pos (place + x - 64))) (sym e);
       holds = n.next.ready;
       step = omega (arith, n.next.near, i.step);
       near = omega (arith, n.next.near, i.step);
       few = omega arith;
     }
 
-pub going_bad : (s : List ℕ) (p r : ℕ) (c : AcCursor) (place : ℕ) (g : Got) → Going s p r c place → place < 64 → NextSymbol s c g → g.num ≡ 0 → BlockEnded s p r None
-going_bad s p r c place g i b n z =
+pub going_bad : (s : List ℕ) (p r : ℕ) (c : AcCursor) (place : ℕ) → Going s p r c place → place < 64 → NextSymbol s c None → BlockEnded s p r None
+going_bad s p r c place i b n =
     record {
-      answer = sym (i.same ∙ stop (bit_at s) place c.pos g.num g.run g.c.pos b z n.answer);
+      answer = sym (i.same ∙ stop (bit_at s) place c.pos b n);
       ready = λ d e. absurd (let x : ◌≡◌ {A = ℕ} 0 1 = cc in omega arith);
     }
 

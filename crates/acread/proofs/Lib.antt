@@ -1,4 +1,3 @@
 pub mod Turn
 pub mod Going
 pub mod Table
-pub mod Rows

@@ -16,7 +16,7 @@ use Rattle.acpairs.proofs.Held.{held}
 use Rattle.acpairs.proofs.Entry.{some, look_less}
 use Rattle.acread.specs.Block.{ends_of}
 use Rattle.acread.specs.Going.{Going, Onward}
-use Rattle.acread.specs.declared.Stop.{Stop}
+use Rattle.bitreader.specs.declared.Stop.{Stop}
 use Rattle.acread.proofs.Turn.{value_turn, run_turn}
 
 module _ (s : List ℕ) (p r : ℕ) (c : AcCursor) (place : ℕ) (i : Going s p r c place) (b : place < 64) (d : AcCursor) (a : At s d) (h : d.pos ≤ c.pos + 112) where

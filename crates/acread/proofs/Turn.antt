@@ -62,14 +62,12 @@ module _ (s : Stream) where
 
   pub turn : (place p n h q : ℕ) → place < 64 → 0 < n → symbol_by n h q ≡ read_symbol s p
       → E (64 - place) p (place - 64) ≡ E (64 - (place + span_of h n)) q (place + span_of h n - 64)
-  turn place p zero h q b z e = absurd (omega arith)
-  turn place p (suc n) zero q b z e = value_turn place p (suc n) q b e
-  turn place p (suc n) (suc h) q b z e = run_turn place p (suc n) q b z e
+  turn place p n zero q b z e = value_turn place p n q b e
+  turn place p n (suc h) q b z e = run_turn place p n q b z e
 
   -- a bad code
-  pub stop : (place p n h q : ℕ) → place < 64 → n ≡ 0 → symbol_by n h q ≡ read_symbol s p → E (64 - place) p (place - 64) ≡ bad_ends
-  stop place p zero h q b z e = at_place place p b ∙ bad_ends_lem (63 - place) p e
-  stop place p (suc n) h q b z e = absurd (omega arith)
+  pub stop : (place p : ℕ) → place < 64 → bad_symbol ≡ read_symbol s p → E (64 - place) p (place - 64) ≡ bad_ends
+  stop place p b e = at_place place p b ∙ bad_ends_lem (63 - place) p e
 
   -- the block is over
   pub over : (place p : ℕ) → 64 ≤ place → E (64 - place) p (place - 64) ≡ ends p (place - 64)

@@ -1,16 +1,17 @@
 -- Within a block: what is still to be read from here ends where the whole block ends.
-use Rattle.std.specs.Prelude.{◌≡◌, List, ℕ, ◌+◌, ◌-◌, ◌*◌, ◌^◌, ◌≤◌, ◌<◌, length}
+use Rattle.std.specs.Prelude.{◌≡◌, List, Option, Some, ℕ, ◌+◌, ◌-◌, ◌*◌, ◌^◌, ◌≤◌, ◌<◌, length}
+use Rattle.std.specs.Borrow.{Bor}
 use Rattle.bits.specs.Bits.{bit_at}
 use Rattle.bitreader.specs.Cursor.{At}
 use Rattle.bitreader.specs.declared.AcCursor.{AcCursor}
 use Rattle.acpairs.specs.Pairs.{Looks}
 use Rattle.calls.specs.ReadPlane.{read_places}
 use Rattle.acread.specs.Block.{ends_of}
-use Rattle.acread.specs.declared.Stop.{Stop}
+use Rattle.bitreader.specs.declared.Stop.{Stop}
 
--- words of at least so many bits are looked up in t: a table of all looks, unless no word has so many
-abbrev pub LooksFrom : ℕ → List ℕ → Type 0
-LooksFrom least t = (10 ≤ least) × (least ≤ 64 → (1024 ≤ length t) × Looks t)
+-- a table, if there is one, is of all looks
+abbrev pub LooksIn : Option (Bor (List ℕ)) → Type 0
+LooksIn o = (t : Bor (List ℕ)) → o ≡ Some t → (1024 ≤ length t.now) × Looks t.now
 
 -- the cursor c stands at a place of the block at p, after whose first zeros r come
 pub record Going (s : List ℕ) (p r : ℕ) (c : AcCursor) (place : ℕ) : Type 0 where

@@ -1,12 +1,16 @@
 // A plane's two streams, each read through by itself: where it ends, and whether it holds a bad code (slice.rs, decode_plane without
 // the values).
+// `at < 2 ^ 31` and `columns ≤ 960` are said by each contract, and at and columns are no struct: `at` is a stream's, of which a plane has
+// two (a caller holds both in one `Positions`), `columns` the plane's; a struct of the two would be made for each call, to be taken apart in it.
+// `dc_good` and `ac_good` are two: one function over the reading function would ask, of that parameter, all of the contract of
+// `through_dc` or `through_ac`, and be told by which definition a stream is good; the body that it spares has one `if`.
+// The loops count no index: they read so many codes or blocks.
 ghost use Rattle.std.specs.Prelude.{◌≡◌, ◌*◌, ◌^◌, ◌≤◌, ◌<◌};
 ghost use Rattle.bits.specs.Bits.{bit_at};
 ghost use Rattle.calls.specs.ReadPlane.{read_steps, read_blocks};
 ghost use Rattle.acread.specs.through.Codes.{good_steps, dc_end};
 ghost use Rattle.acread.specs.through.Through.{block_ends, good_ends, ac_end, end_says};
 
-use acpairs::LOOK;
 use ask::Refusal;
 
 // Reads a plane's DC stream through, to the byte after it: two rows of codes, left at the first bad one.
@@ -15,18 +19,13 @@ pub fn through_dc(dc: &[u8], at: usize, columns: usize) -> Result<usize, Refusal
     ensures { end_says result ≡ dc_end (read_steps (2 * columns) (bit_at dc.now) (8 * at)) }
 {
     let mut c = bitreader::cursor(dc, 8 * at);
-    'codes: {
-        for row in 0usize..2 {
-            for k in 0..columns {
-                let g = bitreader::next_dc(dc, c);
-                if g.num == 0 {
-                    break 'codes Err(Refusal::Code);
-                }
-                c = g.c;
-            }
-        }
-        Ok(bitreader::end_byte(c))
+    for code in 0..2 * columns {
+        let Some(g) = bitreader::next_dc(dc, c) else {
+            return Err(Refusal::Code);
+        };
+        c = g.c;
     }
+    Ok(bitreader::end_byte(c))
 }
 
 // Reads a plane's AC stream through, to the byte after it: two rows of blocks, left at the first bad code.
@@ -37,18 +36,14 @@ pub fn through_ac(ac: &[u8], at: usize, columns: usize) -> Result<usize, Refusal
     let tab = acpairs::looks();
     let mut c = bitreader::cursor(ac, 8 * at);
     let mut pending: u64 = 0;
-    'blocks: {
-        for j in 0usize..2 {
-            for k in 0..columns {
-                let Some(end) = crate::skip_block(ac, c, pending, LOOK, &tab) else {
-                    break 'blocks Err(Refusal::Code);
-                };
-                c = end.c;
-                pending = end.pending;
-            }
-        }
-        Ok(bitreader::end_byte(c))
+    for block in 0..2 * columns {
+        let Some(end) = crate::skip_block(ac, c, pending, Some(&tab)) else {
+            return Err(Refusal::Code);
+        };
+        c = end.c;
+        pending = end.pending;
     }
+    Ok(bitreader::end_byte(c))
 }
 
 // No bad code in a plane's DC stream, from the byte `at` on: one without six zero bytes in a row holds none, another is read through.

@@ -36,7 +36,7 @@ left_yes false c e = e
 
 pub right_yes : (b c : Bool) → b && c ≡ true → c ≡ true
 right_yes true c e = e
-right_yes false c e = absurd (let z : ◌≡◌ {A = ℕ} 0 1 = cc in omega arith)
+right_yes false c e = absurd (cc)
 
 -- ---- a number that no question has is not given
 abbrev pub NotThere : ℕ → List Question → Type 0

@@ -4,4 +4,3 @@ pub mod Looks
 pub mod Seens
 pub mod Longs
 pub mod Signs
-pub mod Views

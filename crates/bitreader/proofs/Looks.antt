@@ -5,15 +5,16 @@ use mathlib.Core.List.{List}
 use Prim.Native.Nat.{ℕ, suc, ◌+◌, ◌-◌, ◌*◌, ◌/◌, ◌%◌, ◌^◌, ◌≤◌, ◌<◌}
 use native.Mathlib.Nat.{add-zero, lt_of_lt_of_le, mod-lt, two-pow-succ, mul-le-mul_left, le-div_iff_mul-le}
 use native.Mathlib.Omega.{arith}
-use lib.Pow.{pow_mono, pow_pos, shl_lt, shl_exact, shr_lt}
+use lib.Pow.{pow_mono, pow_pos, shl_exact, shr_lt}
 use lib.Count.{count_leading_zeros, leading_length}
+use Rattle.std.specs.Prelude.{Option, Some, None}
 use Rattle.bits.specs.Bits.{bit, bit_at, Stream, num}
 use Rattle.bits.specs.Read.{zeros, read_symbol, read_dc}
 use Rattle.bitreader.specs.words.Word.{Holds}
-use Rattle.bitreader.specs.Cursor.{At, symbol_by, dc_by, Next, Looked}
+use Rattle.bitreader.specs.Cursor.{At, symbol_by, dc_by, Next, NextSymbol, NextDc, SeenDc}
 use Rattle.bitreader.specs.declared.AcCursor.{AcCursor}
 use Rattle.bitreader.specs.declared.Got.{Got}
-use Rattle.bitreader.proofs.words.Num.{num_lt, zeros_more, zeros_all}
+use Rattle.bitreader.proofs.words.Num.{zeros_more, zeros_all}
 use Rattle.bitreader.proofs.words.Words.{holds_top, holds_up}
 use Rattle.bitreader.proofs.Leads.{lead_few, lead_many}
 use Rattle.bitreader.proofs.Spans.{symbol_short, dc_short}
@@ -80,7 +81,7 @@ bit_most false = omega arith
 
 -- what is got at a cursor with the same place
 pub next_at : (s : List ℕ) (c d : AcCursor) (g : Got) → d.pos ≡ c.pos → Next s d g → Next s c g
-next_at s c d g e n = record { ready = n.ready; head = n.head ∙ ap (λ (x : ℕ). bit (bit_at s x)) e; small = n.small; near = omega (arith, n.near) }
+next_at s c d g e n = record { ready = n.ready; head = n.head ∙ ap (λ (x : ℕ). bit (bit_at s x)) e; more = n.more; small = n.small; near = omega (arith, n.near) }
 
 module _ (s : List ℕ) (c : AcCursor) (a : At s c) (some : 0 < c.count) where
   pub head_is : c.bits / 2 ^ 63 ≡ bit (bit_at s c.pos)
@@ -92,9 +93,6 @@ module _ (s : List ℕ) (c : AcCursor) (a : At s c) (some : 0 < c.count) where
   -- the bits after the head
   pub behind : Holds s (c.pos + c.bits / 2 ^ 63) (c.count - c.bits / 2 ^ 63) ((c.bits * 2 ^ (c.bits / 2 ^ 63)) % 2 ^ 64)
   behind = holds_up s c.pos c.count c.bits (c.bits / 2 ^ 63) a.holds a.most (omega (arith, head_most))
-
-  pub stay_next : Next s c (record { run = c.bits / 2 ^ 63; num = 0; c = c })
-  stay_next = record { ready = a; head = head_is; small = omega arith; near = omega arith }
 
   -- the word t of the m bits after e of the head
   module _ (e m t y : ℕ) (h : Holds s (c.pos + e) m t) (hi : m ≤ 64) (ey : y ≡ count_leading_zeros 64 t) where
@@ -108,57 +106,53 @@ module _ (s : List ℕ) (c : AcCursor) (a : At s c) (some : 0 < c.count) where
       found : Lead (bit_at s) (c.pos + e) y n
       found = lead s (c.pos + e) m t y n h hi ey fit en
 
-      pub look_next : n < 2 ^ 56 → Next s c (record { run = c.bits / 2 ^ 63; num = n; c = k })
-      look_next l = record {
+      pub look_next : 0 < n → n < 2 ^ 56 → Next s c (record { run = c.bits / 2 ^ 63; num = n; c = k })
+      look_next o l = record {
         ready = at_skip s c k (2 * y + 1 + c.bits / 2 ^ 63) a all kp kc kb;
         head = head_is;
+        more = o;
         small = l;
         near = omega (arith, a.most);
       }
 
-      pub look_symbol : 0 < n → e ≡ c.bits / 2 ^ 63 → symbol_by n (c.bits / 2 ^ 63) k.pos ≡ read_symbol (bit_at s) c.pos
-      look_symbol l ee =
+      pub look_symbol : e ≡ c.bits / 2 ^ 63 → symbol_by n (c.bits / 2 ^ 63) k.pos ≡ read_symbol (bit_at s) c.pos
+      look_symbol ee =
           symbol_short (bit_at s) c.pos (c.bits / 2 ^ 63) y n k.pos head_is (found.zs ∙ ap (λ (x : ℕ). zeros 56 (bit_at s) (c.pos + x)) ee) (omega arith)
-          (found.is ∙ ap (λ (x : ℕ). num (suc y) 0 (bit_at s) (c.pos + x + y)) ee) l kp
+          (found.is ∙ ap (λ (x : ℕ). num (suc y) 0 (bit_at s) (c.pos + x + y)) ee) kp
 
-      pub look_dc : 0 < n → e ≡ 0 → dc_by n (c.bits / 2 ^ 63) k.pos ≡ read_dc (bit_at s) c.pos
-      look_dc l ee =
+      pub look_dc : e ≡ 0 → dc_by n (c.bits / 2 ^ 63) k.pos ≡ read_dc (bit_at s) c.pos
+      look_dc ee =
           let e0 : c.pos + e ≡ c.pos = omega arith in
           dc_short (bit_at s) c.pos (c.bits / 2 ^ 63) y n k.pos head_is (found.zs ∙ ap (zeros 56 (bit_at s)) e0) (omega arith)
-          (found.is ∙ ap (λ (x : ℕ). num (suc y) 0 (bit_at s) (x + y)) e0) l kp
+          (found.is ∙ ap (λ (x : ℕ). num (suc y) 0 (bit_at s) (x + y)) e0) kp
 
--- ---- a look at the DC stream: the word of d, of what stands at c
-module _ (s : List ℕ) (c d : AcCursor) (a : At s d) (ep : d.pos ≡ c.pos) (many : 31 < d.count) where
-  here : Holds s (d.pos + 0) d.count d.bits
-  here = subst (λ (x : ℕ). Holds s x d.count d.bits) (sym (add-zero d.pos)) a.holds
+-- the same of a whole answer
+pub symbol_at : (s : List ℕ) (c d : AcCursor) (o : Option Got) → d.pos ≡ c.pos → NextSymbol s d o → NextSymbol s c o
+symbol_at s c d None e n = n ∙ ap (read_symbol (bit_at s)) e
+symbol_at s c d (Some g) e n = record { next = next_at s c d g e n.next; answer = n.answer ∙ ap (read_symbol (bit_at s)) e }
 
-  word_lt : d.bits < 2 ^ 64
-  word_lt =
-      let e : d.count + (64 - d.count) ≡ 64 = omega (arith, a.most) in
-      let l : num d.count 0 (bit_at s) d.pos * 2 ^ (64 - d.count) < 2 ^ (d.count + (64 - d.count)) = shl_lt d.count (64 - d.count) (num_lt d.count (bit_at s) d.pos) in
-      rw a.holds (rw e at l)
+pub dc_at : (s : List ℕ) (c d : AcCursor) (o : Option Got) → d.pos ≡ c.pos → NextDc s d o → NextDc s c o
+dc_at s c d None e n = n ∙ ap (read_dc (bit_at s)) e
+dc_at s c d (Some g) e n = record { next = next_at s c d g e n.next; answer = n.answer ∙ ap (read_dc (bit_at s)) e }
 
-  pub dc_stays : 14 < count_leading_zeros 64 d.bits → Looked s c 0 (record { run = d.bits / 2 ^ 63; num = 0; c = d })
-  dc_stays l = record {
-    next = next_at s c d (record { run = d.bits / 2 ^ 63; num = 0; c = d }) ep (stay_next s d a (omega arith));
-    stays = λ _. ep;
-    long = λ _. ap (λ (x : ℕ). bit_at s (x + 0)) (sym ep) ∙ zero_first s d a (omega arith) 0 d.count d.bits (count_leading_zeros 64 d.bits) here a.most refl (omega arith) (omega arith);
-  }
+-- ---- a look at the DC stream
+module _ (c : AcCursor) (many : 31 < c.count) where
+  here : (s : List ℕ) → At s c → Holds s (c.pos + 0) c.count c.bits
+  here s a = subst (λ (x : ℕ). Holds s x c.count c.bits) (sym (add-zero c.pos)) a.holds
 
-  module _ (y n : ℕ) (k : AcCursor) (ey : y ≡ count_leading_zeros 64 d.bits) (few : y ≤ 14) (en : n ≡ ((d.bits * 2 ^ y) % 2 ^ 64) / 2 ^ (63 - y))
-      (kp : k.pos ≡ d.pos + (2 * y + 1 + d.bits / 2 ^ 63)) (kc : k.count ≡ d.count - (2 * y + 1 + d.bits / 2 ^ 63)) (kb : k.bits ≡ (d.bits * 2 ^ (2 * y + 1 + d.bits / 2 ^ 63)) % 2 ^ 64) where
-    above : 0 < n
-    above = digits_some d.bits y n word_lt ey (omega arith) en
+  pub dc_none : 14 < count_leading_zeros 64 c.bits → SeenDc c None
+  dc_none l s a = ap (bit_at s) (sym (add-zero c.pos)) ∙ zero_first s c a (omega arith) 0 c.count c.bits (count_leading_zeros 64 c.bits) (here s a) a.most refl (omega arith) (omega arith)
 
-    all : 2 * y + 1 + d.bits / 2 ^ 63 ≤ d.count
-    all = omega (arith, head_most s d a (omega arith))
-
-    pub dc_goes : Looked s c 0 (record { run = d.bits / 2 ^ 63; num = n; c = k })
-    dc_goes = record {
-      next = next_at s c d (record { run = d.bits / 2 ^ 63; num = n; c = k }) ep (look_next s d a (omega arith) 0 d.count d.bits y here a.most ey n k (omega arith) all en kp kc kb (digits_small d.bits y n word_lt ey (omega arith) en));
-      stays = λ z. absurd (omega (arith, above, z));
-      long = λ z. absurd (omega (arith, above, z));
-    }
-
-    pub dc_code : dc_by n (d.bits / 2 ^ 63) k.pos ≡ read_dc (bit_at s) c.pos
-    dc_code = look_dc s d a (omega arith) 0 d.count d.bits y here a.most ey n k (omega arith) all en kp kc kb above refl ∙ ap (read_dc (bit_at s)) ep
+  pub dc_some : (y n : ℕ) (k : AcCursor) → c.bits < 2 ^ 64 → y ≡ count_leading_zeros 64 c.bits → y ≤ 14 → n ≡ ((c.bits * 2 ^ y) % 2 ^ 64) / 2 ^ (63 - y)
+      → k.pos ≡ c.pos + (2 * y + 1 + c.bits / 2 ^ 63) → k.count ≡ c.count - (2 * y + 1 + c.bits / 2 ^ 63) → k.bits ≡ (c.bits * 2 ^ (2 * y + 1 + c.bits / 2 ^ 63)) % 2 ^ 64
+      → SeenDc c (Some (record { run = c.bits / 2 ^ 63; num = n; c = k }))
+  dc_some y n k lt ey few en kp kc kb s a =
+      let o : 0 < c.count = omega arith in
+      let above : 0 < n = digits_some c.bits y n lt ey (omega arith) en in
+      let low : n < 2 ^ 56 = digits_small c.bits y n lt ey (omega arith) en in
+      let all : 2 * y + 1 + c.bits / 2 ^ 63 ≤ c.count = omega (arith, head_most s c a o) in
+      let fit : y + suc y ≤ c.count = omega arith in
+      record {
+        next = look_next s c a o 0 c.count c.bits y (here s a) a.most ey n k fit all en kp kc kb above low;
+        answer = look_dc s c a o 0 c.count c.bits y (here s a) a.most ey n k fit all en kp kc kb refl;
+      }

@@ -2,13 +2,14 @@
 use mathlib.Core.Path.{◌≡◌, refl, sym, ap, ap₂, ◌∙◌}
 use mathlib.Core.Bool.{Bool, true, false}
 use mathlib.Core.Logic.{⊎_elim}
-use Prim.Native.Nat.{ℕ, zero, suc, ◌+◌, ◌-◌, ◌*◌, ◌^◌, ◌≤◌, ◌<◌}
-use native.Mathlib.Nat.{add-zero, lt_of_lt_of_le, not-suc-le-zero}
+use Prim.Native.Nat.{ℕ, suc, ◌+◌, ◌-◌, ◌*◌, ◌^◌, ◌≤◌, ◌<◌}
+use native.Mathlib.Nat.{add-zero, lt_of_lt_of_le}
 use native.Mathlib.Omega.{arith}
 use borrow.Author.Tests.{le-leb, lt-leb}
 use lib.Dec.{leb, leb-suc-suc}
 use lib.Pow.{pow_mono, pow_pos}
 use lib.Count.{count_leading_zeros}
+use Rattle.std.specs.Prelude.{Option, Some, None}
 use Rattle.bits.specs.Bits.{bit, Stream, num}
 use Rattle.bits.specs.Read.{zeros, Tail, bad_tail, number, pick_tail, tail_at, read_tail, bad_symbol, run, value, as_run, as_value, by_head, read_symbol, bad_dc, zero_step, step, as_step, by_first, read_dc}
 use Rattle.bitreader.specs.words.Word.{number_of}
@@ -88,156 +89,153 @@ run_number s p y h e l = go (s (suc p)) refl
 
 -- ---- what the code has: the head bit r, y zeros after it, the number n, the place q
 
-pub value_by : (n q : ℕ) → 0 < n → symbol_by n 0 q ≡ value n q
-value_by zero q h = absurd (not-suc-le-zero h)
-value_by (suc n) q h = refl
-
-pub run_by : (n q : ℕ) → 0 < n → symbol_by n 1 q ≡ run n q
-run_by zero q h = absurd (not-suc-le-zero h)
-run_by (suc n) q h = refl
-
-pub step_by : (n q : ℕ) → 0 < n → dc_by n 0 q ≡ step n q
-step_by zero q h = absurd (not-suc-le-zero h)
-step_by (suc n) q h = refl
-
-pub zero_by : (n q : ℕ) → 0 < n → dc_by n 1 q ≡ zero_step q
-zero_by zero q h = absurd (not-suc-le-zero h)
-zero_by (suc n) q h = refl
-
-pub symbol_short : (s : Stream) (p r y n q : ℕ) → r ≡ bit (s p) → y ≡ zeros 56 s (p + r) → y ≤ 55 → n ≡ num (suc y) 0 s (p + r + y) → 0 < n → q ≡ p + (2 * y + 1 + r)
+pub symbol_short : (s : Stream) (p r y n q : ℕ) → r ≡ bit (s p) → y ≡ zeros 56 s (p + r) → y ≤ 55 → n ≡ num (suc y) 0 s (p + r + y) → q ≡ p + (2 * y + 1 + r)
     → symbol_by n r q ≡ read_symbol s p
-symbol_short s p r y n q er ey l en h eq = go (s p) refl
+symbol_short s p r y n q er ey l en eq = go (s p) refl
   where
     go : (b : Bool) → s p ≡ b → symbol_by n r q ≡ read_symbol s p
     go false k =
         let r0 : r ≡ 0 = er ∙ ap bit k in
         let e0 : p + r ≡ p = omega arith in
         let e1 : q ≡ p + y + suc y = omega arith in
-        ap (λ (x : ℕ). symbol_by n x q) r0 ∙ value_by n q h
+        ap (λ (x : ℕ). symbol_by n x q) r0
         ∙ ap₂ value (en ∙ ap (λ (x : ℕ). num (suc y) 0 s (x + y)) e0) e1
         ∙ sym (value_at s p k ∙ ap as_value (tail_number s p y k (sym (ey ∙ ap (zeros 56 s) e0)) l))
     go true k =
         let r1 : r ≡ 1 = er ∙ ap bit k in
         let e0 : p + r ≡ suc p = omega arith in
         let e1 : q ≡ suc p + y + suc y = omega arith in
-        ap (λ (x : ℕ). symbol_by n x q) r1 ∙ run_by n q h
+        ap (λ (x : ℕ). symbol_by n x q) r1
         ∙ ap₂ run (en ∙ ap (λ (x : ℕ). num (suc y) 0 s (x + y)) e0) e1
         ∙ sym (run_number s p y k (sym (ey ∙ ap (zeros 56 s) e0)) l)
 
-pub dc_short : (s : Stream) (p r y n q : ℕ) → r ≡ bit (s p) → y ≡ zeros 56 s p → y ≤ 55 → n ≡ num (suc y) 0 s (p + y) → 0 < n → q ≡ p + (2 * y + 1 + r)
+pub dc_short : (s : Stream) (p r y n q : ℕ) → r ≡ bit (s p) → y ≡ zeros 56 s p → y ≤ 55 → n ≡ num (suc y) 0 s (p + y) → q ≡ p + (2 * y + 1 + r)
     → dc_by n r q ≡ read_dc s p
-dc_short s p r y n q er ey l en h eq = go (s p) refl
+dc_short s p r y n q er ey l en eq = go (s p) refl
   where
     go : (b : Bool) → s p ≡ b → dc_by n r q ≡ read_dc s p
     go false k =
         let r0 : r ≡ 0 = er ∙ ap bit k in
         let e1 : q ≡ p + y + suc y = omega arith in
-        ap (λ (x : ℕ). dc_by n x q) r0 ∙ step_by n q h ∙ ap₂ step en e1
+        ap (λ (x : ℕ). dc_by n x q) r0 ∙ ap₂ step en e1
         ∙ sym (step_at s p k ∙ ap as_step (tail_number s p y k (sym ey) l))
     go true k =
         let r1 : r ≡ 1 = er ∙ ap bit k in
         let z : y ≡ 0 = ey ∙ zeros_zero 55 s p k in
         let e1 : q ≡ suc (suc p) = omega arith in
-        ap (λ (x : ℕ). dc_by n x q) r1 ∙ zero_by n q h ∙ ap zero_step e1 ∙ sym (zero_at s p k)
+        ap (λ (x : ℕ). dc_by n x q) r1 ∙ ap zero_step e1 ∙ sym (zero_at s p k)
 
--- ---- any tail after a zero, by its number: 0 is bad, and the others' length is that of their digits
+-- ---- any tail after a zero, by its number: none is bad, and the others' length is that of their digits
+
+clash : {v : ℕ} → None ≡ Some v → ⊥
+clash e = let z : ◌≡◌ {A = ℕ} 0 1 = cc in omega arith
+
+some_is : {v n : ℕ} → Some v ≡ Some n → v ≡ n
+some_is e = cc
+
+bad_by : (t : Tail) → None ≡ number_of t → t ≡ bad_tail
+bad_by bad_tail e = refl
+bad_by (number n q) e = absurd (clash e)
+
 pub record Found (s : Stream) (q v : ℕ) : Type 0 where
+  pub more : 0 < v
   pub low : 2 ≤ 64 - count_leading_zeros 64 v
   pub high : 64 - count_leading_zeros 64 v ≤ 56
   pub small : v < 2 ^ 56
   pub is : read_tail s (suc q) ≡ number v (q + (2 * (64 - count_leading_zeros 64 v) - 1))
 
-module _ (s : Stream) (q v : ℕ) (h : s q ≡ false) (e : v ≡ number_of (read_tail s (suc q))) where
+module _ (s : Stream) (q v : ℕ) (h : s q ≡ false) (e : Some v ≡ number_of (read_tail s (suc q))) where
   is_bad : 55 < zeros 56 s q → read_tail s (suc q) ≡ bad_tail
   is_bad k = tail_span s q h ∙ span_bad s q (zeros 56 s q) k
 
   first_one : (y : ℕ) → zeros 56 s q ≡ y → y ≤ 55 → 2 ^ y ≤ num (suc y) 0 s (q + y)
   first_one y g k = one_first y s (q + y) (ap (λ (x : ℕ). s (q + x)) (sym g) ∙ zeros_one 56 s q (omega arith))
 
-  is_number : (y : ℕ) → zeros 56 s q ≡ y → y ≤ 55 → v ≡ num (suc y) 0 s (q + y)
-  is_number y g k = e ∙ ap number_of (tail_number s q y h g k)
-
-  pub tail_bad : v ≡ 0 → read_tail s (suc q) ≡ bad_tail
-  tail_bad z = ⊎_elim is_bad (λ k. absurd (omega (arith, first_one (zeros 56 s q) refl k, is_number (zeros 56 s q) refl k, pow_pos (zeros 56 s q)))) (lt_or_ge 55 (zeros 56 s q))
-
   found : (y : ℕ) → zeros 56 s q ≡ y → y ≤ 55 → 0 < y → Found s q v
   found y g k o =
-      let n : v ≡ num (suc y) 0 s (q + y) = is_number y g k in
+      let n : v ≡ num (suc y) 0 s (q + y) = some_is (e ∙ ap number_of (tail_number s q y h g k)) in
       let lo : 2 ^ y ≤ v = rw n (first_one y g k) in
       let hi : v < 2 ^ suc y = rw n (num_lt (suc y) s (q + y)) in
       let d : count_leading_zeros 64 v ≡ 63 - y = lead_is y v (omega arith) lo hi in
       let m : suc y ≤ 56 = omega arith in
       let f : q + y + suc y ≡ q + (2 * (64 - count_leading_zeros 64 v) - 1) = omega arith in
       record {
+        more = omega (arith, lo, pow_pos y);
         low = omega arith;
         high = omega arith;
         small = lt_of_lt_of_le hi (pow_mono m);
         is = tail_number s q y h g k ∙ ap₂ number (sym n) f;
       }
 
-  pub tail_found : 0 < v → Found s q v
-  tail_found l =
-      ⊎_elim (λ k. let z : v ≡ 0 = e ∙ ap number_of (is_bad k) in absurd (omega arith))
+  pub tail_found : Found s q v
+  tail_found =
+      ⊎_elim (λ k. absurd (clash (sym (e ∙ ap number_of (is_bad k)))))
       (λ k. found (zeros 56 s q) refl k (omega (arith, zeros_suc 55 s q h)))
       (lt_or_ge 55 (zeros 56 s q))
 
--- the symbol of a long code
-pub symbol_bad : (s : Stream) (p r v : ℕ) → r ≡ bit (s p) → s (p + r) ≡ false → v ≡ number_of (read_tail s (p + 1 + r)) → v ≡ 0 → bad_symbol ≡ read_symbol s p
-symbol_bad s p r v er h e z = go (s p) refl
-  where
-    go : (b : Bool) → s p ≡ b → bad_symbol ≡ read_symbol s p
-    go false k =
-        let r0 : r ≡ 0 = er ∙ ap bit k in
-        let e0 : p + 1 + r ≡ suc p = omega arith in
-        sym (value_at s p k ∙ ap as_value (tail_bad s p v k (e ∙ ap (λ (x : ℕ). number_of (read_tail s x)) e0) z))
-    go true k =
-        let r1 : r ≡ 1 = er ∙ ap bit k in
-        let e0 : p + 1 + r ≡ suc (suc p) = omega arith in
-        let e2 : p + r ≡ suc p = omega arith in
-        let h2 : s (suc p) ≡ false = ap s (sym e2) ∙ h in
-        sym (run_at s p k h2 ∙ ap as_run (tail_bad s (suc p) v h2 (e ∙ ap (λ (x : ℕ). number_of (read_tail s x)) e0) z))
+-- a symbol by the tail after its head r
+module _ (s : Stream) (p r : ℕ) (er : r ≡ bit (s p)) (h : s (p + r) ≡ false) where
+  after : {t : Option ℕ} → t ≡ number_of (read_tail s (p + 1 + r)) → t ≡ number_of (read_tail s (suc (p + r)))
+  after e =
+      let e0 : p + 1 + r ≡ suc (p + r) = omega arith in
+      e ∙ ap (λ (x : ℕ). number_of (read_tail s x)) e0
 
-pub symbol_long : (s : Stream) (p r v q : ℕ) → r ≡ bit (s p) → s (p + r) ≡ false → v ≡ number_of (read_tail s (p + 1 + r)) → 0 < v → q ≡ p + (2 * (64 - count_leading_zeros 64 v) + r - 1) → symbol_by v r q ≡ read_symbol s p
-symbol_long s p r v q er h e l eq = go (s p) refl
-  where
-    go : (b : Bool) → s p ≡ b → symbol_by v r q ≡ read_symbol s p
-    go false k =
-        let r0 : r ≡ 0 = er ∙ ap bit k in
-        let e0 : p + 1 + r ≡ suc p = omega arith in
-        let f = tail_found s p v k (e ∙ ap (λ (x : ℕ). number_of (read_tail s x)) e0) l in
-        let e1 : q ≡ p + (2 * (64 - count_leading_zeros 64 v) - 1) = omega arith in
-        ap (λ (x : ℕ). symbol_by v x q) r0 ∙ value_by v q l ∙ ap (value v) e1 ∙ sym (value_at s p k ∙ ap as_value f.is)
-    go true k =
-        let r1 : r ≡ 1 = er ∙ ap bit k in
-        let e0 : p + 1 + r ≡ suc (suc p) = omega arith in
-        let e2 : p + r ≡ suc p = omega arith in
-        let h2 : s (suc p) ≡ false = ap s (sym e2) ∙ h in
-        let f = tail_found s (suc p) v h2 (e ∙ ap (λ (x : ℕ). number_of (read_tail s x)) e0) l in
-        let e1 : q ≡ suc p + (2 * (64 - count_leading_zeros 64 v) - 1) = omega (arith, f.low) in
-        ap (λ (x : ℕ). symbol_by v x q) r1 ∙ run_by v q l ∙ ap (run v) e1 ∙ sym (run_at s p k h2 ∙ ap as_run f.is)
+  pub symbol_bad : None ≡ number_of (read_tail s (p + 1 + r)) → bad_symbol ≡ read_symbol s p
+  symbol_bad e = go (s p) refl
+    where
+      go : (b : Bool) → s p ≡ b → bad_symbol ≡ read_symbol s p
+      go false k =
+          let e0 : p + r ≡ p = omega (arith, er, ap bit k) in
+          sym (value_at s p k ∙ ap as_value (ap (λ (x : ℕ). read_tail s (suc x)) (sym e0) ∙ bad_by (read_tail s (suc (p + r))) (after e)))
+      go true k =
+          let e0 : p + r ≡ suc p = omega (arith, er, ap bit k) in
+          sym (run_at s p k (ap s (sym e0) ∙ h) ∙ ap as_run (ap (λ (x : ℕ). read_tail s (suc x)) (sym e0) ∙ bad_by (read_tail s (suc (p + r))) (after e)))
 
--- how long it is
-pub long_size : (s : Stream) (p r v : ℕ) → s (p + r) ≡ false → v ≡ number_of (read_tail s (p + 1 + r)) → 0 < v → Found s (p + r) v
-long_size s p r v h e l =
-    let e0 : p + 1 + r ≡ suc (p + r) = omega arith in
-    tail_found s (p + r) v h (e ∙ ap (λ (x : ℕ). number_of (read_tail s x)) e0) l
+  module _ (v : ℕ) (e : Some v ≡ number_of (read_tail s (p + 1 + r))) where
+    -- how long it is
+    pub long_size : Found s (p + r) v
+    long_size = tail_found s (p + r) v h (after e)
+
+    pub symbol_long : (q : ℕ) → q ≡ p + (2 * (64 - count_leading_zeros 64 v) + r - 1) → symbol_by v r q ≡ read_symbol s p
+    symbol_long q eq = go (s p) refl
+      where
+        q_is : q ≡ p + r + (2 * (64 - count_leading_zeros 64 v) - 1)
+        q_is = omega (arith, long_size.low)
+
+        go : (b : Bool) → s p ≡ b → symbol_by v r q ≡ read_symbol s p
+        go false k =
+            let r0 : r ≡ 0 = er ∙ ap bit k in
+            let e0 : p + r ≡ p = omega arith in
+            ap (λ (x : ℕ). symbol_by v x q) r0 ∙ ap (value v) q_is
+            ∙ sym (value_at s p k ∙ ap as_value (ap (λ (x : ℕ). read_tail s (suc x)) (sym e0) ∙ long_size.is))
+        go true k =
+            let r1 : r ≡ 1 = er ∙ ap bit k in
+            let e0 : p + r ≡ suc p = omega arith in
+            ap (λ (x : ℕ). symbol_by v x q) r1 ∙ ap (run v) q_is
+            ∙ sym (run_at s p k (ap s (sym e0) ∙ h) ∙ ap as_run (ap (λ (x : ℕ). read_tail s (suc x)) (sym e0) ∙ long_size.is))
 
 -- the same of the DC stream, where a long code begins with a zero
-pub dc_bad : (s : Stream) (p v : ℕ) → s p ≡ false → v ≡ number_of (read_tail s (p + 1 + 0)) → v ≡ 0 → bad_dc ≡ read_dc s p
-dc_bad s p v h e z =
-    let e0 : p + 1 + 0 ≡ suc p = omega arith in
-    sym (step_at s p h ∙ ap as_step (tail_bad s p v h (e ∙ ap (λ (x : ℕ). number_of (read_tail s x)) e0) z))
+module _ (s : Stream) (p : ℕ) (h : s p ≡ false) where
+  after_zero : {t : Option ℕ} → t ≡ number_of (read_tail s (p + 1)) → t ≡ number_of (read_tail s (suc p))
+  after_zero e =
+      let e0 : p + 1 ≡ suc p = omega arith in
+      e ∙ ap (λ (x : ℕ). number_of (read_tail s x)) e0
 
-pub dc_long : (s : Stream) (p v q : ℕ) → s p ≡ false → v ≡ number_of (read_tail s (p + 1 + 0)) → 0 < v → q ≡ p + (2 * (64 - count_leading_zeros 64 v) + 0 - 1) → dc_by v 0 q ≡ read_dc s p
-dc_long s p v q h e l eq =
-    let e0 : p + 1 + 0 ≡ suc p = omega arith in
-    let f = tail_found s p v h (e ∙ ap (λ (x : ℕ). number_of (read_tail s x)) e0) l in
-    let e1 : q ≡ p + (2 * (64 - count_leading_zeros 64 v) - 1) = omega arith in
-    step_by v q l ∙ ap (step v) e1 ∙ sym (step_at s p h ∙ ap as_step f.is)
+  pub dc_bad : None ≡ number_of (read_tail s (p + 1)) → bad_dc ≡ read_dc s p
+  dc_bad e = sym (step_at s p h ∙ ap as_step (bad_by (read_tail s (suc p)) (after_zero e)))
+
+  module _ (v : ℕ) (e : Some v ≡ number_of (read_tail s (p + 1))) where
+    pub dc_size : Found s p v
+    dc_size = tail_found s p v h (after_zero e)
+
+    pub dc_long : (q : ℕ) → q ≡ p + (2 * (64 - count_leading_zeros 64 v) + 0 - 1) → dc_by v 0 q ≡ read_dc s p
+    dc_long q eq =
+        let e1 : q ≡ p + (2 * (64 - count_leading_zeros 64 v) - 1) = omega arith in
+        ap (step v) e1 ∙ sym (step_at s p h ∙ ap as_step dc_size.is)
 
 -- ---- a tail by the zeros before it
 
-pub tail_no : (s : Stream) (p : ℕ) → zeros 55 s p ≡ 55 → 0 ≡ number_of (read_tail s p)
+pub tail_no : (s : Stream) (p : ℕ) → zeros 55 s p ≡ 55 → None ≡ number_of (read_tail s p)
 unfolding read_tail tail_at
 tail_no s p e = sym (ap number_of (ap (tail_at s p) e))
 
@@ -245,6 +243,6 @@ pub number_at : (s : Stream) (p z : ℕ) → z ≤ 54 → tail_at s p z ≡ numb
 unfolding tail_at
 number_at s p z h = rw (le-leb z 54 h)
 
-pub tail_yes : (s : Stream) (p z n : ℕ) → z ≡ zeros 55 s p → z ≤ 54 → n ≡ num (suc (suc z)) 0 s (p + z) → n ≡ number_of (read_tail s p)
+pub tail_yes : (s : Stream) (p z n : ℕ) → z ≡ zeros 55 s p → z ≤ 54 → n ≡ num (suc (suc z)) 0 s (p + z) → Some n ≡ number_of (read_tail s p)
 unfolding read_tail
-tail_yes s p z n e h en = en ∙ sym (ap number_of (ap (tail_at s p) (sym e) ∙ number_at s p z h))
+tail_yes s p z n e h en = ap Some en ∙ sym (ap number_of (ap (tail_at s p) (sym e) ∙ number_at s p z h))

@@ -1,5 +1,8 @@
 // Reading bits and symbols (bits.rs, BitReader and AcCursor). Stream and position are passed separately.
 // A bit position counts from the stream's start, the highest bit of a byte first; past the end every bit is one.
+// How far a cursor may stand (`c.pos < 2 ^ 62`, `2 ^ 61`, `2 ^ 60`) and that it stands in a stream (`At s.now c`) are said by each
+// contract, and by no type: the limit falls from a caller to what it calls, `next_symbol` to `look` to `skip`, since each moves the cursor;
+// and `At` is of a cursor and of the stream that is passed beside it.
 #![tactic(auto)]
 
 pub mod scan;
@@ -7,25 +10,32 @@ pub mod words;
 
 ghost use Rattle.std.specs.Prelude.{◌≡◌, ℕ, ◌+◌, ◌-◌, ◌*◌, ◌/◌, ◌%◌, ◌^◌, ◌≤◌, ◌<◌};
 ghost use Rattle.bits.specs.Bits.{bit_at, bytes_for};
-ghost use Rattle.bits.specs.Read.{read_tail, read_symbol, read_dc};
+ghost use Rattle.bits.specs.Read.{read_tail};
 ghost use Rattle.bits.specs.Signed.{signed_of};
 ghost use Rattle.bitreader.specs.words.Word.{number_of};
-ghost use Rattle.bitreader.specs.Cursor.{At, symbol_of, NextSymbol, NextDc, Looked, Long, Seen, dc_code_of};
+ghost use Rattle.bitreader.specs.Cursor.{At, NextSymbol, NextDc, Seen, SeenDc, long_of};
 
 // A place in a stream, with the next bits at the top of a word.
-#[derive(Clone, Copy)]
+#[derive(Clone, Copy, Debug, PartialEq, Eq, Hash)]
 pub struct AcCursor {
     pub pos: usize,
     pub bits: u64,
     pub count: u32,
 }
 
-// What was read: the head bit (1: a run, or a zero step), the number (0: a bad code), and the cursor after it.
-#[derive(Clone, Copy)]
+// A code that was read: the head bit (1: a run, or a zero step), the number, and the cursor after it.
+#[derive(Clone, Copy, Debug, PartialEq, Eq, Hash)]
 pub struct Got {
     pub run: u64,
     pub num: u64,
     pub c: AcCursor,
+}
+
+// Within a block: the cursor, and the place that the next symbol is for.
+#[derive(Clone, Copy, Debug, PartialEq, Eq, Hash)]
+pub struct Stop {
+    pub c: AcCursor,
+    pub place: u64,
 }
 
 // A cursor at p.
@@ -87,8 +97,8 @@ fn digits(t: u64, y: u32) -> u64
 }
 
 // The symbol at a cursor by one look at its word, the same for all three kinds: run is the head, y zeros follow.
-// Number 0: it does not end before the word's last bit.
-pub fn look(c: AcCursor) -> Got
+// Nothing where it does not end before the word's last bit.
+pub fn look(c: AcCursor) -> Option<Got>
     requires { (c.count ≤ 64) × (c.pos < 2 ^ 61) }
     ensures { Seen c result }
 {
@@ -97,63 +107,51 @@ pub fn look(c: AcCursor) -> Got
     let y = u64::leading_zeros(t);
     let n = 2 * y + 1 + run as u32;
     if c.count <= n {
-        return Got { run, num: 0, c };
+        return None;
     }
-    Got {
+    Some(Got {
         run,
         num: digits(t, y),
         c: skip(c, n),
-    }
-}
-
-// The same with a word of at least 32 bits.
-fn quick(s: &[u8], c0: AcCursor) -> Got
-    requires { At s.now c0 × (c0.pos < 2 ^ 60) }
-    ensures { Looked s.now c0 result.run result × (0 < result.num → symbol_of result ≡ read_symbol (bit_at s.now) c0.pos) }
-{
-    look(filled(s, c0))
+    })
 }
 
 // The same of the DC stream, where the head's second bit counts for nothing, by 31 bits.
-fn quick_dc(s: &[u8], c0: AcCursor) -> Got
-    requires { At s.now c0 × (c0.pos < 2 ^ 60) }
-    ensures { Looked s.now c0 0 result × (0 < result.num → dc_code_of result ≡ read_dc (bit_at s.now) c0.pos) }
+fn look_dc(c: AcCursor) -> Option<Got>
+    requires { (31 < c.count) × (c.count ≤ 64) × (c.pos < 2 ^ 61) }
+    ensures { SeenDc c result }
 {
-    let c = filled(s, c0);
     let run = c.bits >> 63;
     let t = c.bits;
     let y = u64::leading_zeros(t);
     if y > 14 {
-        return Got { run, num: 0, c };
+        return None;
     }
-    Got {
+    Some(Got {
         run,
         num: digits(t, y),
         c: skip(c, 2 * y + 1 + run as u32),
-    }
+    })
 }
 
-// The number after a head, of any length, 0 for a bad code. Long codes are seldom: a number alone comes back,
+// The number after a head, of any length; nothing for a bad code. Long codes are seldom: a number alone comes back,
 // so that where the compiler leaves this a call, nothing of a cursor goes through memory.
-fn long_number(s: &[u8], p: usize) -> u64
+fn long_number(s: &[u8], p: usize) -> Option<u64>
     requires { p < 2 ^ 61 }
     ensures { result ≡ number_of (read_tail (bit_at s.now) p) }
 {
     let z = u64::leading_zeros(crate::words::far(s, p));
     if z > 54 {
-        return 0;
+        return None;
     }
-    crate::words::far(s, p + z as usize) >> (62 - z)
+    Some(crate::words::far(s, p + z as usize) >> (62 - z))
 }
 
 // What was got by the number v after the head run at c: a code's length is that of its number's digits.
 fn longer(c: AcCursor, run: u64, v: u64) -> Got
-    requires { (c.pos < 2 ^ 60) × (run < 2) }
-    ensures { Long c run v result }
+    requires { (c.pos < 2 ^ 60) × (run < 2) × (0 < v) }
+    ensures { result ≡ long_of c run v }
 {
-    if v == 0 {
-        return Got { run, num: 0, c };
-    }
     let n = 2 * (64 - u64::leading_zeros(v)) + run as u32 - 1;
     Got {
         run,
@@ -166,34 +164,31 @@ fn longer(c: AcCursor, run: u64, v: u64) -> Got
     }
 }
 
-// The symbol of the AC stream at a cursor: `0` value, `10` run, `11` run of 1; number 0 is a bad code.
-pub fn next_symbol(s: &[u8], c: AcCursor) -> Got
+// The symbol of the AC stream at a cursor: `0` value, `10` run, `11` run of 1; nothing for a bad code.
+pub fn next_symbol(s: &[u8], c: AcCursor) -> Option<Got>
     requires { At s.now c × (c.pos < 2 ^ 60) }
     ensures { NextSymbol s.now c result }
 {
-    let g = quick(s, c);
-    if g.num == 0 {
-        let d = g.c;
-        let v = long_number(s, d.pos + 1 + g.run as usize);
-        longer(d, g.run, v)
-    } else {
-        g
+    let d = filled(s, c);
+    if let Some(g) = look(d) {
+        return Some(g);
     }
+    let run = d.bits >> 63;
+    let v = long_number(s, d.pos + 1 + run as usize)?;
+    Some(longer(d, run, v))
 }
 
-// The code of the DC stream at a cursor: a first bit of one is a zero step; number 0 is a bad code.
-pub fn next_dc(s: &[u8], c: AcCursor) -> Got
+// The code of the DC stream at a cursor: a first bit of one is a zero step; nothing for a bad code.
+pub fn next_dc(s: &[u8], c: AcCursor) -> Option<Got>
     requires { At s.now c × (c.pos < 2 ^ 60) }
     ensures { NextDc s.now c result }
 {
-    let h = quick_dc(s, c);
-    if h.num == 0 {
-        let d = h.c;
-        let v = long_number(s, d.pos + 1);
-        longer(d, 0, v)
-    } else {
-        h
+    let d = filled(s, c);
+    if let Some(g) = look_dc(d) {
+        return Some(g);
     }
+    let v = long_number(s, d.pos + 1)?;
+    Some(longer(d, 0, v))
 }
 
 // The number of a value code, cut to 16 bits, wrapping: an odd code is above 0.

@@ -2,18 +2,18 @@
 use mathlib.Core.Path.{◌≡◌, refl, sym, ap, ◌∙◌}
 use mathlib.Core.Bool.{Bool, true, false}
 use mathlib.Core.List.{List, [], ◌∷◌, ◌++◌}
-use Prim.Native.Nat.{ℕ, zero, suc, ◌+◌, ◌*◌, ◌^◌, ◌/◌, ◌%◌, ◌-◌, ◌≤◌, ◌<◌, zero-le, suc-le-suc}
-use native.Mathlib.Nat.{add-zero, zero-add, add-suc, suc-add, pow-suc, pow-zero, mod-lt, le_refl, le_of_suc-le-suc, not-suc-le-zero, mul-one, zero-mul, mod-one, zero-lt-suc, mul_assoc, le-div_iff_mul-le, div-lt_iff_lt-mul, mod-eq_of_lt}
+use Prim.Native.Nat.{ℕ, zero, suc, ◌+◌, ◌*◌, ◌^◌, ◌/◌, ◌%◌, ◌≤◌, ◌<◌}
+use native.Mathlib.Nat.{add-zero, add-suc, suc-add, pow-suc, mod-lt, le_refl, le_of_suc-le-suc, not-suc-le-zero, zero-lt-suc, le-div_iff_mul-le, div-lt_iff_lt-mul, mod-eq_of_lt}
 use native.Mathlib.Omega.{arith}
 use native.Mathlib.Numerals.{one-add}
-use lib.ListN.{length, get_or, replicate, length-append, length-replicate}
+use lib.ListN.{length, replicate, length-append, length-replicate}
 use lib.Arith.{half_le}
 use native.Mathlib.Decide.{dec_lt}
 use lib.Pow.{pow_pos, mod-pow-add, pow_mono}
 use lib.Dec.{eqb}
 use borrow.Author.Tests.{le-leb}
 use Rattle.bits.specs.Bits.{bit, odd, bits_of, halvings, bit_length, spread, value_code, run_code, Stream, num}
-use Rattle.bits.specs.Read.{max_zeros, zeros, Tail, bad_tail, number, pick_tail, tail_at, read_tail, Symbol, bad_symbol, run, value, as_run, as_value, read_symbol}
+use Rattle.bits.specs.Read.{max_zeros, zeros, number, tail_at, read_tail, run, value, read_symbol}
 
 -- these bits lie at the place p of a stream, whatever lies before and after
 abbrev pub At : Stream → ℕ → List Bool → Type 0
@@ -116,10 +116,6 @@ tail_back s p z n small lo hi a = rw (zs, le-leb z max_zeros few, ns)
     ns = num_bits (suc (suc z)) 0 n s (p + z) (rw length-replicate at (at_append s p (replicate z false) (bits_of (suc (suc z)) n) a).1) ∙ rw (mod-eq_of_lt hi) (omega arith)
 
 -- ---- the codes are read back
-len_suc_suc : (c k : ℕ) → 2 ≤ c → Digits c k → (z : ℕ) × (k ≡ suc z)
-len_suc_suc c zero h d = absurd (omega (arith, d.high))
-len_suc_suc c (suc z) h d = (z, refl)
-
 -- fewer digits than a power allows
 pub digits_lt : (c k m : ℕ) → Digits c k → c < 2 ^ m → k < m
 digits_lt c k m d h = elim (dec_lt k m) [ yes l ↦ l | no g ↦ absurd (omega (arith, d.low, pow_mono {i = m} {j = k} (omega arith))) ]

@@ -1,14 +1,13 @@
 -- Document 01's entries on bits and symbols, on the definitions.
 use mathlib.Core.Path.{◌≡◌, refl}
-use mathlib.Core.Bool.{Bool, true, false}
-use mathlib.Core.List.{List, [], ◌∷◌, ◌++◌}
-use Prim.Native.Nat.{ℕ, zero, suc}
-use lib.IntN.{ℤ, pos, negsuc}
+use mathlib.Core.Bool.{true, false}
+use mathlib.Core.List.{[], ◌∷◌, ◌++◌}
+use lib.IntN.{pos, negsuc}
 use lib.ListN.{replicate}
 use Rattle.scalar.specs.Scalar.{wrap16}
 use Rattle.bits.specs.Bits.{bits_of, halvings, bit_length, spread, value_code, run_code, num, bit_at, to_bytes, pad_to_byte}
 use Rattle.bits.specs.Signed.{code_of, signed_of}
-use Rattle.bits.specs.Read.{zeros, tail_at, read_tail, Symbol, bad_symbol, run, value, read_symbol, DcCode, bad_dc, zero_step, step, read_dc}
+use Rattle.bits.specs.Read.{zeros, tail_at, read_tail, run, value, read_symbol, bad_dc, zero_step, step, read_dc}
 
 -- "1 has code 3, -1 code 2, 32767 code 65535, -32768 code 65536." And 0 has code 0.
 codes : (code_of (pos 1) ∷ code_of (negsuc 0) ∷ code_of (pos 32767) ∷ code_of (negsuc 32767) ∷ code_of (pos 0) ∷ []) ≡ 3 ∷ 2 ∷ 65535 ∷ 65536 ∷ 0 ∷ []

@@ -1,12 +1,12 @@
 -- The bit length by halving is the width less the leading zeros, at any width that holds the number. Assumes nothing.
 use mathlib.Core.Path.{◌≡◌, refl, sym, ap, ◌∙◌, subst}
-use Prim.Native.Nat.{ℕ, zero, suc, ◌+◌, ◌-◌, ◌*◌, ◌/◌, ◌^◌, ◌≤◌, ◌<◌}
-use native.Mathlib.Nat.{zero-add, add-zero, add-suc, le_refl, not-suc-le-zero, le_of_suc-le-suc, lt_of_not-le, not-le_of_lt, le_trans, lt_of_lt_of_le}
+use Prim.Native.Nat.{ℕ, zero, suc, ◌+◌, ◌-◌, ◌/◌, ◌^◌, ◌≤◌, ◌<◌}
+use native.Mathlib.Nat.{zero-add, add-zero, add-suc, le_refl, not-suc-le-zero}
 use native.Mathlib.Numerals.{add-one}
 use native.Mathlib.Omega.{arith}
 use lib.Arith.{half_le, lt-one}
-use lib.Pow.{shr_lt, pow_mono}
-use lib.Count.{count_leading_zeros, leading_of_zero, leading_top}
+use lib.Pow.{shr_lt}
+use lib.Count.{count_leading_zeros, leading_top}
 use Rattle.bits.specs.Bits.{halvings, bit_length}
 
 half_lt : (n k : ℕ) → n < 2 ^ suc k → n / 2 < 2 ^ k

@@ -1,13 +1,13 @@
 -- Bits in lists, bytes in lists, and bits padded to bytes. Assumes nothing.
-use mathlib.Core.Path.{◌≡◌, refl, sym, ap, ap₂, ◌∙◌, subst}
-use mathlib.Core.Bool.{Bool, true, false}
+use mathlib.Core.Path.{◌≡◌, refl, sym, ap, ap₂, ◌∙◌}
+use mathlib.Core.Bool.{Bool, false}
 use mathlib.Core.List.{List, [], ◌∷◌, ◌++◌, append_assoc, append-nil}
-use Prim.Native.Nat.{ℕ, zero, suc, ◌+◌, ◌-◌, ◌*◌, ◌/◌, ◌%◌, ◌^◌, ◌≤◌, ◌<◌}
-use native.Mathlib.Nat.{zero-add, add-zero, add-suc, suc-add, add_assoc, add_comm, zero-mul, add-mul, mul_assoc, mul_comm, mul-suc, pow-suc, mod-lt, mod-one, mod-eq_of_lt, zero-div, mul-add-div_right, mul-add-mod_self_right}
+use Prim.Native.Nat.{ℕ, zero, suc, ◌+◌, ◌-◌, ◌*◌, ◌/◌, ◌%◌, ◌^◌, ◌<◌}
+use native.Mathlib.Nat.{zero-add, add-zero, add-suc, suc-add, add_assoc, add_comm, zero-mul, add-mul, mul_assoc, mul_comm, pow-suc, mod-lt, mod-one, mod-eq_of_lt, zero-div, mul-add-div_right, mul-add-mod_self_right}
 use native.Mathlib.Numerals.{one-add}
 use native.Mathlib.Omega.{arith}
 use lib.Dec.{eqb, lit<}
-use lib.Pow.{pow_pos, pow-add, shr-shr, high, split, mod-pow-add, shr_lt}
+use lib.Pow.{pow_pos, pow-add, shr-shr, high, split, mod-pow-add}
 use lib.ListN.{length, get_or, replicate, length-append, length-replicate}
 use lib.Seq.{get_or-append-add}
 use Rattle.bits.specs.Bits.{bit, odd, bits_of, Stream, num, bytes_for, to_bytes, pad_to_byte}

@@ -1,17 +1,16 @@
 -- Signed numbers and their codes: the code of any number reads as its low 16 bits, so each number of 16 bits reads as itself.
-use mathlib.Core.Path.{◌≡◌, refl, sym, ap, ◌∙◌}
-use mathlib.Core.Bool.{Bool, true, false}
-use Prim.Native.Nat.{ℕ, zero, suc, ◌+◌, ◌*◌, ◌-◌, ◌/◌, ◌%◌, ◌≤◌, ◌<◌}
+use mathlib.Core.Path.{◌≡◌, refl, ap, ◌∙◌}
+use Prim.Native.Nat.{ℕ, zero, suc, ◌+◌, ◌*◌, ◌/◌, ◌%◌, ◌≤◌, ◌<◌}
 use native.Mathlib.Omega.{arith}
 use lib.IntN.{ℤ, pos, negsuc, neg_ℤ, nat_abs}
-use lib.Signed.{mag}
-use borrow.Author.Tests.{eq-eqb, ne_eqb}
+use lib.Signed.{mag, lt_z}
+use borrow.Author.Tests.{eq-eqb, ne_eqb, le-leb}
 use mir.Syntax.{w16}
-use mir.Val.{SFits, Fits, to_z, of_z}
-use mir.Facts.{to_z-of_z, of_z-to_z}
+use mir.Val.{to_z, of_z}
+use mir.Facts.{to_z-of_z}
 use Rattle.scalar.specs.Scalar.{mod_z, wrap16}
-use Rattle.bits.specs.Bits.{odd}
-use Rattle.bits.specs.Signed.{code_of, by_sign, signed_of}
+use Rattle.bits.specs.Bits.{bit}
+use Rattle.bits.specs.Signed.{code_of, signed_of}
 
 pub signed_code : (d : ℤ) → signed_of (code_of d) ≡ wrap16 d
 unfolding code_of signed_of
@@ -24,6 +23,13 @@ signed_code (negsuc n) = rw (ne_eqb ((2 * suc n) % 2) 1 (omega arith)) (ap (λ (
   where
     half : (2 * suc n) / 2 ≡ suc n
     half = omega arith
+
+-- the code by the number's size and its sign, as code computes it
+pub code_parts : (v : ℤ) → code_of v ≡ 2 * nat_abs v + bit (lt_z (pos 0) v)
+unfolding code_of
+code_parts (pos zero) = refl
+code_parts (pos (suc n)) = rw (le-leb 1 (suc n) (omega arith))
+code_parts (negsuc n) = omega arith
 
 mod_bits : (z : ℤ) → mag z < 32768 → mod_z z 65536 ≡ of_z w16 z
 mod_bits (pos n) h = omega arith

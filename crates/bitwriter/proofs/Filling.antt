@@ -2,11 +2,11 @@
 use mathlib.Core.Path.{◌≡◌, sym, ap, ap₂, ◌∙◌, refl, subst}
 use mathlib.Core.Bool.{Bool}
 use mathlib.Core.List.{List, [], ◌++◌, append_assoc}
-use Prim.Native.Nat.{ℕ, ◌+◌, ◌*◌, ◌/◌, ◌%◌, ◌^◌, ◌<◌}
-use native.Mathlib.Nat.{mod-lt, add-zero}
+use Prim.Native.Nat.{ℕ, ◌+◌, ◌-◌, ◌*◌, ◌/◌, ◌%◌, ◌^◌, ◌≤◌, ◌<◌}
+use native.Mathlib.Nat.{mod-lt, add-zero, lt_of_lt_of_le}
 use native.Mathlib.Omega.{arith}
 use lib.Arith.{digits_lt}
-use lib.Pow.{pow_pos, pow-add, shr_lt}
+use lib.Pow.{pow_pos, pow-add, pow_mono, shr_lt}
 use Rattle.bits.specs.Bits.{bits_of}
 use Rattle.bits.specs.Lay.{lay}
 use Rattle.bits.specs.ByteRow.{bytes_bits, word_bytes}
@@ -14,6 +14,23 @@ use Rattle.bits.proofs.Pack.{bits_join, bits_split, bits_mod, word_length, word_
 use Rattle.bits.proofs.LayLaw.{lay_none}
 use Rattle.bitwriter.specs.Put.{Put, Room}
 use Rattle.bitwriter.specs.declared.BitAcc.{BitAcc}
+
+-- k bits wait: what they leave for n more, and for as many as fill the accumulator
+pub below : (k n a : ℕ) → a < 2 ^ k → n < 64 - k → a < 2 ^ (64 - n)
+below k n a h g = lt_of_lt_of_le h (pow_mono {i = k} {j = 64 - n} (omega arith))
+
+pub free_again : (k a : ℕ) → k < 64 → a < 2 ^ k → a < 2 ^ (64 - (64 - k))
+free_again k a l h = let e : k ≡ 64 - (64 - k) = omega arith in subst (λ (x : ℕ). a < 2 ^ x) e h
+
+pub top : (k n v : ℕ) → 64 - k ≤ n → v < 2 ^ n → v / 2 ^ (n - (64 - k)) < 2 ^ (64 - k)
+top k n v g h = let e : n ≡ 64 - k + (n - (64 - k)) = omega arith in shr_lt (64 - k) (n - (64 - k)) (subst (λ (x : ℕ). v < 2 ^ x) e h)
+
+-- moved up to whole bytes, they still fit
+pub moved_up : (k a : ℕ) → k < 64 → a < 2 ^ k → a < 2 ^ (64 - (8 * ((k + 7) / 8) - k))
+moved_up k a l h = lt_of_lt_of_le h (pow_mono {i = k} {j = 64 - (8 * ((k + 7) / 8) - k)} (omega arith))
+
+pub padding : (k : ℕ) → 0 < 2 ^ (8 * ((k + 7) / 8) - k)
+padding k = pow_pos (8 * ((k + 7) / 8) - k)
 
 -- the bits fit the accumulator
 pub put_few : (a : BitAcc) (o : List ℕ) (n v x : ℕ) → Room a n o → v < 2 ^ n → a.nbits + n < 64 → x ≡ a.acc * 2 ^ n + v

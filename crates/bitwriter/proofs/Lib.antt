@@ -3,4 +3,5 @@ pub mod Writer
 pub mod Same
 mod Filling
 mod Words
+mod RunWord
 pub mod Pairs

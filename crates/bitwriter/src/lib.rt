@@ -1,5 +1,12 @@
 // The bit writer of the slice streams (BitAcc of bits.rs), highest bit first, over a buffer that the caller lends.
 // The accumulator takes up to 63 bits and stores eight whole bytes when it is full; only bytes of the stream are ever stored.
+//
+// What stays as it is, since the new form is no plainer:
+// - The accumulator by value and the buffer lent beside it. A struct that keeps the lent buffer would have to promise in each contract
+//   that its field still is that buffer (`result.out.ghost_name ≡ a.out.ghost_name`); two parameters need no such clause.
+// - 0 < c, c < 2 ^ 15 and n < 2 ^ 17 as clauses. A NonZero is made by a test, whose other answer can't come where a mask found the value
+//   (entropy::coder); a struct of run and code would be made for one call and taken apart in it, its maker asking the same three.
+// - n < 64 in put, store::join and store::low: each n counts bits of another number, and is used once, in a shift, which asks it.
 #![tactic(auto)]
 
 pub mod lent;
@@ -8,10 +15,10 @@ pub mod store;
 ghost use Rattle.std.specs.Prelude.{◌≡◌, ◌++◌, ◌+◌, ◌-◌, ◌*◌, ◌/◌, ◌%◌, ◌^◌, ◌≤◌, ◌<◌, length};
 ghost use Rattle.bits.specs.Bits.{bits_of, bit_length, value_code, run_code, pad_to_byte};
 ghost use Rattle.bits.specs.Lay.{lay};
-ghost use Rattle.bitwriter.specs.Put.{Room, LastRoom, Put, flushed};
+ghost use Rattle.bitwriter.specs.Put.{start, Room, LastRoom, Put, flushed};
 ghost use Rattle.bitwriter.specs.Pairs.{pair_code};
 
-#[derive(Clone, Copy)]
+#[derive(Clone, Copy, Debug, PartialEq, Eq, Hash)]
 pub struct BitAcc {
     // The bits that wait, in the low end.
     pub acc: u64,
@@ -21,7 +28,21 @@ pub struct BitAcc {
     pub pos: usize,
 }
 
+impl BitAcc {
+    // A writer at the byte pos: no bits wait.
+    pub fn starting_at(pos: usize) -> BitAcc
+        ensures { result ≡ start pos }
+    {
+        BitAcc {
+            acc: 0,
+            nbits: 0,
+            pos,
+        }
+    }
+}
+
 // Appends the n bits of v.
+#[tactic(auto, using(crate::proofs::Filling::below, crate::proofs::Filling::free_again, crate::proofs::Filling::top, crate::proofs::Filling::put_few, crate::proofs::Filling::put_full))]
 pub fn put(a: BitAcc, v: u64, n: u32, out: &mut [u8]) -> BitAcc
     requires { (n < 64) × (v < 2 ^ n) × Room a n out.old }
     ensures { Put a out.old (bits_of n v) result out.new }
@@ -45,6 +66,7 @@ pub fn put(a: BitAcc, v: u64, n: u32, out: &mut [u8]) -> BitAcc
 }
 
 // Appends the value code of c.
+#[tactic(auto, using(crate::proofs::Words::value_fits_32, crate::proofs::Words::value_put))]
 pub fn put_value(a: BitAcc, c: u32, out: &mut [u8]) -> BitAcc
     requires { (0 < c) × Room a (length (value_code c)) out.old }
     ensures { Put a out.old (value_code c) result out.new }
@@ -54,6 +76,7 @@ pub fn put_value(a: BitAcc, c: u32, out: &mut [u8]) -> BitAcc
 }
 
 // The run code of n as a number; b is n's bit length.
+#[tactic(auto, using(crate::proofs::RunWord::few, crate::proofs::RunWord::run_number))]
 fn run_word(n: u32, b: u32) -> u64
     requires { (b ≡ bit_length n) × (n < 2 ^ 31) }
     ensures { result ≡ 2 ^ (2 * b) / 2 + n }
@@ -62,6 +85,7 @@ fn run_word(n: u32, b: u32) -> u64
 }
 
 // Appends the run code of n: nothing for 0.
+#[tactic(auto, using(crate::proofs::Words::run_fits_31, crate::proofs::Words::run_room, crate::proofs::Words::run_put))]
 pub fn put_run(a: BitAcc, n: u32, out: &mut [u8]) -> BitAcc
     requires { (n < 2 ^ 31) × Room a (length (run_code n)) out.old }
     ensures { Put a out.old (run_code n) result out.new }
@@ -71,13 +95,14 @@ pub fn put_run(a: BitAcc, n: u32, out: &mut [u8]) -> BitAcc
 }
 
 // A run code and the value code after it as one number, and how many bits they are.
-#[derive(Clone, Copy)]
+#[derive(Clone, Copy, Debug, PartialEq, Eq, Hash)]
 pub struct PairCode {
     pub bits: u64,
     pub length: u32,
 }
 
 // The run code of n, then the value code of c: 34 bits and 29 bits at most.
+#[tactic(auto, using(crate::proofs::Words::run_fits_17, crate::proofs::Words::value_fits_15))]
 pub fn pair_code(n: u32, c: u32) -> PairCode
     requires { (n < 2 ^ 17) × (0 < c) × (c < 2 ^ 15) }
     ensures { result ≡ pair_code n c }
@@ -91,6 +116,7 @@ pub fn pair_code(n: u32, c: u32) -> PairCode
 }
 
 // Appends the run code of n, then the value code of c, in one put.
+#[tactic(auto, using(crate::proofs::Pairs::pair_asks, crate::proofs::Pairs::pair_put))]
 pub fn put_run_value(a: BitAcc, n: u32, c: u32, out: &mut [u8]) -> BitAcc
     requires { (n < 2 ^ 17) × (0 < c) × (c < 2 ^ 15) × Room a (length (run_code n ++ value_code c)) out.old }
     ensures { Put a out.old (run_code n ++ value_code c) result out.new }
@@ -100,6 +126,7 @@ pub fn put_run_value(a: BitAcc, n: u32, c: u32, out: &mut [u8]) -> BitAcc
 }
 
 // Stores the bits that wait, with zero bits up to a byte.
+#[tactic(auto, using(crate::proofs::Filling::moved_up, crate::proofs::Filling::padding, bits::proofs::Pack::pad_word))]
 pub fn align(a: BitAcc, out: &mut [u8]) -> BitAcc
     requires { LastRoom a out.old }
     ensures { (result ≡ flushed a) × (out.new ≡ lay out.old a.pos (pad_to_byte (bits_of a.nbits a.acc))) }
@@ -108,9 +135,5 @@ pub fn align(a: BitAcc, out: &mut [u8]) -> BitAcc
     let pos = a.pos;
     let w = crate::store::join(a.acc, 8 * m - a.nbits, 0);
     crate::store::store_low(out, pos, w, m);
-    BitAcc {
-        acc: 0,
-        nbits: 0,
-        pos: pos + m as usize,
-    }
+    BitAcc::starting_at(pos + m as usize)
 }

@@ -4,6 +4,7 @@ ghost use Rattle.bits.specs.Lay.{lay};
 ghost use Rattle.bits.specs.ByteRow.{word_bytes};
 
 // a, then the n bits of v.
+#[tactic(auto, using(crate::proofs::Laid::joined))]
 pub fn join(a: u64, n: u32, v: u64) -> u64
     requires { (n < 64) × (a < 2 ^ (64 - n)) × (v < 2 ^ n) }
     ensures { result ≡ a * 2 ^ n + v }
@@ -12,6 +13,7 @@ pub fn join(a: u64, n: u32, v: u64) -> u64
 }
 
 // The n low bits of w.
+#[tactic(auto, using(crate::proofs::Laid::one_up, crate::proofs::Laid::masked))]
 pub fn low(w: u64, n: u32) -> u64
     requires { n < 64 }
     ensures { result ≡ w % 2 ^ n }
@@ -20,6 +22,7 @@ pub fn low(w: u64, n: u32) -> u64
 }
 
 // Stores the eight bytes of w at p, the highest first.
+#[tactic(auto, using(crate::proofs::Laid::copied, crate::proofs::Laid::eight, bits::proofs::Pack::word_length))]
 pub fn store8(out: &mut [u8], p: usize, w: u64)
     requires { p + 8 ≤ length out.old }
     ensures { out.new ≡ lay out.old p (word_bytes 8 w) }
@@ -28,6 +31,7 @@ pub fn store8(out: &mut [u8], p: usize, w: u64)
 }
 
 // Stores the m low bytes of w at p, the highest first.
+#[tactic(auto, using(crate::proofs::Laid::copied, crate::proofs::Laid::last_bytes, bits::proofs::Pack::word_length))]
 pub fn store_low(out: &mut [u8], p: usize, w: u64, m: u32)
     requires { (m ≤ 8) × (p + m ≤ length out.old) }
     ensures { out.new ≡ lay out.old p (word_bytes m w) }

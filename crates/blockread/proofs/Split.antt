@@ -4,7 +4,7 @@ use borrow.Author.Tests.{lt-leb}
 use Rattle.scalar.specs.Scalar.{add_of}
 use Rattle.scalar.proofs.Laws.{back}
 use Rattle.bits.specs.Bits.{Stream, bit_at, bytes_for}
-use Rattle.bitreader.specs.Cursor.{NextDc}
+use Rattle.bitreader.specs.Cursor.{DcGot}
 use Rattle.bitreader.specs.declared.Got.{Got}
 use Rattle.bitreader.proofs.scan.Codes.{symbol_to}
 use Rattle.quant.specs.Quantise.{coefficient, scan_of}
@@ -15,8 +15,8 @@ use Rattle.acplaces.specs.declared.AcGot.{AcGot}
 use Rattle.blockread.specs.On.{on_streams, read_on, block_first, NextBlock}
 use Rattle.blockread.specs.declared.Stand.{Stand}
 use Rattle.blockread.proofs.dc.Scan.{scan_dc, scan_with}
-use Rattle.acread.specs.through.Codes.{step_of, good_steps}
-use Rattle.acread.proofs.through.Codes.{steps_next, some}
+use Rattle.acread.specs.through.Codes.{step_of}
+use Rattle.acread.proofs.through.Codes.{steps_next}
 use Rattle.acread.proofs.through.Ends.{BlocksTo, blocks_to}
 
 -- ---- one block more
@@ -45,8 +45,7 @@ not_flat r = go (ltb r 64) refl
 pub fits_back : {z : ℤ} → SFits w16 z → SFits w16 (back w16 z)
 fits_back h = subst (SFits w16) (sym (to_z-of_z h)) h
 
-module _ (shift : ℕ) (dc ac : List ℕ) (s : Stand) (a : AcGot) (nat : List ℤ) (h : Got) (p : Placed ac s.ac s.pending a nat) (b : NextDc dc s.dc h)
-    (g : good_steps (read_steps 1 (bit_at dc) s.dc.pos) ≡ true) where
+module _ (shift : ℕ) (dc ac : List ℕ) (s : Stand) (a : AcGot) (nat : List ℤ) (h : Got) (p : Placed ac s.ac s.pending a nat) (b : DcGot dc s.dc h) where
   first_block : {d : ℤ} → d ≡ add_of (settle shift (step_of h.run h.num) (coefficient nat 0)) s.last → (o n : ℕ)
       → read_on shift (suc n) dc ac s
       ≡ block_first (record { symbol_read = not (leb 64 s.pending); coeffs = scan_of (set nat 0 d) })
@@ -58,7 +57,7 @@ module _ (shift : ℕ) (dc ac : List ℕ) (s : Stand) (a : AcGot) (nat : List �
       let v : add_of (settle shift (step_of h.run h.num) (dc_of (scan_of nat))) s.last ≡ d =
       ap (λ (z : ℤ). add_of (settle shift (step_of h.run h.num) z) s.last) (scan_dc nat) ∙ sym e in
       ap₂ (on_streams shift s.last)
-      (steps_next (bit_at dc) n s.dc.pos h.num h.run h.c.pos b.answer (some (bit_at dc) 0 s.dc.pos h.num h.run h.c.pos b.answer g))
+      (steps_next (bit_at dc) n s.dc.pos h.num h.run h.c.pos b.answer)
       (blocks_next (bit_at ac) n s.ac s.pending p.answer)
       ∙ split shift s.last (step_of h.run h.num) x (record { symbol_read = ltb s.pending 64; coeffs = scan_of nat }) y
       ∙ ap (λ (z : ℤ). block_first (record { symbol_read = ltb s.pending 64; coeffs = with_dc z (scan_of nat) }) (on_streams shift z x y)) v

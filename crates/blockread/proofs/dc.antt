@@ -1,4 +1,3 @@
-pub mod Signs
 pub mod Back
 pub mod Steps
 pub mod Scan

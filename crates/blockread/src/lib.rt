@@ -1,4 +1,5 @@
-// A plane's blocks, read one by one from both streams (slice.rs, decode_plane without the transform).
+// A plane's blocks, read one by one from both streams (slice.rs, decode_plane without the transform). The bounds of places stay clauses:
+// begin's are of bytes (2 ^ 30), ends' of bits (2 ^ 62) after all blocks, so no two are one fact that a type could keep.
 #![tactic(auto)]
 
 pub mod block;
@@ -14,7 +15,7 @@ use calls::Positions;
 
 // Between two blocks: where each stream is read next, the zeros of a run that are still to come, the AC bits that the block before
 // took (nothing read depends on them), its DC.
-#[derive(Clone, Copy)]
+#[derive(Clone, Copy, Debug, PartialEq, Eq, Hash)]
 pub struct Stand {
     pub dc: AcCursor,
     pub ac: usize,
@@ -24,7 +25,7 @@ pub struct Stand {
 }
 
 // A block: its 64 coefficients in natural order, whether no AC symbol was read for it, and what follows.
-#[derive(Clone, Copy)]
+#[derive(Clone, Copy, Debug, PartialEq, Eq, Hash)]
 pub struct BlockGot {
     pub next: Stand,
     pub flat: bool,

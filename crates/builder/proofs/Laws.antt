@@ -2,11 +2,11 @@
 use mathlib.Core.Path.{◌≡◌, refl, sym}
 use mathlib.Core.Bool.{Bool, true, false}
 use mathlib.Core.List.{List, [], ◌∷◌}
-use Prim.Native.Nat.{ℕ, zero, suc, ◌+◌, ◌-◌, ◌%◌, ◌≤◌, ◌<◌}
+use Prim.Native.Nat.{ℕ, zero, suc, ◌+◌, ◌%◌, ◌≤◌, ◌<◌}
 use native.Mathlib.Omega.{arith}
 use lib.Dec.{leb}
 use lib.ListN.{length}
-use borrow.Author.Tests.{le-leb, lt-leb, leb-true, leb-false}
+use borrow.Author.Tests.{le-leb, leb-true}
 use Rattle.ask.proofs.Asked.{asked_no}
 use Rattle.ask.specs.Refusals.{number_of}
 use Rattle.ask.specs.declared.refusal.Refusal.{Refusal}
@@ -15,14 +15,6 @@ use Rattle.ask.specs.Limits.{shift_max}
 use Rattle.bits.specs.Lay.{lay}
 use Rattle.layout.specs.Geometry.{size_ok, slice_count}
 use Rattle.builder.specs.Build.{Build, Built, header_size, header_bytes, format_byte, start_questions, header_of, started, count_byte}
-
--- ---- room, by difference
-pub by_difference : (len at n : ℕ) → at ≤ len → leb n (len - at) ≡ leb (at + n) len
-by_difference len at n h = go (leb (at + n) len) refl
-  where
-    go : (b : Bool) → leb (at + n) len ≡ b → leb n (len - at) ≡ b
-    go true e = le-leb n (len - at) (omega (arith, leb-true (at + n) len e))
-    go false e = lt-leb n (len - at) (omega (arith, leb-false (at + n) len e))
 
 pub five : (shift : ℕ) → (shift ≡ 0 → ⊥) → header_size shift ≡ 5
 five zero h = absurd (h refl)
@@ -62,9 +54,6 @@ starts w h shift len at e = go (leb shift shift_max) refl (leb (at + header_size
           small = leb-true shift shift_max x;
           room = leb-true (at + header_size shift) len y;
         }
-
-pub header_room3 : (shift at len : ℕ) → shift ≡ 0 → at + header_size shift ≤ len → at + 3 ≤ len
-header_room3 shift at len e h = rw e at h
 
 -- ---- the answers
 module _ (w h : ℕ) (interlaced : Bool) (quality shift : ℕ) (out : List ℕ) (at : ℕ) where

@@ -56,11 +56,11 @@ impl Builder {
     }
 }
 
-// Whether n bytes fit from `at` on in a buffer of len bytes. Compared by subtraction: no sum may overflow.
-fn fits(len: usize, at: usize, n: usize) -> bool
-    ensures { result ≡ leb (at + n) len }
+// Whether the bytes that are needed fit from `at` on.
+fn fits(out: &[u8], at: usize, needed: usize) -> bool
+    ensures { result ≡ leb (at + needed) (length out.now) }
 {
-    at <= len && n <= len - at
+    out.get(at..).is_some_and(|rest| needed <= rest.len())
 }
 
 fn header_size(shift: u32) -> usize
@@ -75,14 +75,14 @@ fn start_asked(
     width: usize,
     height: usize,
     shift: u32,
-    len: usize,
+    out: &[u8],
     at: usize,
 ) -> Result<FrameSize, Refusal>
-    ensures asked { given result ≡ first_no (start_questions width height shift len at) }
+    ensures asked { given result ≡ first_no (start_questions width height shift (length out.now) at) }
     ensures legal { IfOk result (λ size. size.height ≡ height) }
 {
     ask(ask::shift_ok(shift), Refusal::Shift)?;
-    ask(fits(len, at, header_size(shift)), Refusal::Room)?;
+    ask(fits(out, at, header_size(shift)), Refusal::Room)?;
     FrameSize::new(width, height)
 }
 
@@ -93,6 +93,7 @@ fn format_byte(interlaced: bool) -> u8
 }
 
 // Stores the header at `at`.
+#[tactic(auto, using(crate::proofs::Laws::five, crate::proofs::Laws::short_header, crate::proofs::Laws::long_header, bits::proofs::LayLaw::lay_lay))]
 fn put_header(out: &mut [u8], at: usize, interlaced: bool, quality: u8, shift: u32, count: u8)
     requires { (at + header_size shift ≤ length out.old) × (shift ≤ shift_max) }
     ensures { out.new ≡ lay out.old at (header_bytes interlaced quality shift count) }
@@ -107,6 +108,7 @@ fn put_header(out: &mut [u8], at: usize, interlaced: bool, quality: u8, shift: u
 }
 
 // Writes the header at `at`, and is then ready for the first DC stream. Where no DC shift is named it writes 0.
+#[tactic(auto, using(crate::proofs::Laws::starts, crate::proofs::Laws::header_refused, crate::proofs::Laws::header_yes, crate::proofs::Laws::frame_built))]
 pub fn start_frame(
     width: usize,
     height: usize,
@@ -120,7 +122,7 @@ pub fn start_frame(
         (header_of width height interlaced quality (shift_says shift) out.old at) }
 {
     let shift = shift.unwrap_or(0);
-    let size = start_asked(width, height, shift, out.len(), at)?;
+    let size = start_asked(width, height, shift, out, at)?;
     let slices = layout::slice_count(size.height);
     put_header(out, at, interlaced, quality, shift, (slices % 256) as u8);
     Ok(Builder {

@@ -58,12 +58,12 @@ fn stream_asked(
     kind: Kind,
     slice: usize,
     s: &[u8],
-    len: usize,
+    out: &[u8],
 ) -> Result<FrameSize, Refusal>
-    ensures asked { given result ≡ first_no (stream_questions width height (builder_says b) (is_ac kind) slice (length s.now) len) }
+    ensures asked { given result ≡ first_no (stream_questions width height (builder_says b) (is_ac kind) slice (length s.now) (length out.now)) }
     ensures legal { IfOk result (λ size. size.height ≡ height) }
 {
-    ask(crate::fits(len, b.at, 4 + s.len()), Refusal::Room)?;
+    ask(crate::fits(out, b.at, 4 + s.len()), Refusal::Room)?;
     let size = FrameSize::new(width, height)?;
     ask(s.len() <= limit_for(size, kind), Refusal::Limit)?;
     let slices = layout::slice_count(size.height);
@@ -72,11 +72,11 @@ fn stream_asked(
 }
 
 // Stores a 32-bit length, low byte first.
-fn put_length(out: &mut [u8], at: usize, n: usize)
-    requires { (at + 4 ≤ length out.old) × (n < 2 ^ 32) }
-    ensures { out.new ≡ lay out.old at (length_word n) }
+fn put_length(out: &mut [u8], at: usize, size: u32)
+    requires { at + 4 ≤ length out.old }
+    ensures { out.new ≡ lay out.old at (length_word size) }
 {
-    copy::copy_in(out, at, &(n as u32).to_le_bytes());
+    copy::copy_in(out, at, &size.to_le_bytes());
 }
 
 // The state after a stream that ends at `at`, in a frame of so many slices.
@@ -100,6 +100,7 @@ fn next_state(b: Builder, slices: usize, at: usize) -> Builder
 }
 
 // Puts the stream of a slice after what was written.
+#[tactic(auto, using(crate::proofs::streams::Laws::puts, crate::proofs::streams::Laws::short_stream, layout::proofs::Laws::sized, crate::proofs::streams::Laws::below_count, crate::proofs::streams::Laws::stream_refused, crate::proofs::streams::Laws::stream_done, crate::proofs::streams::Laws::stream_built, bits::proofs::LayLaw::lay_length))]
 pub fn put_stream(
     width: usize,
     height: usize,
@@ -112,12 +113,12 @@ pub fn put_stream(
     ensures { StreamCall b result out.old out.new
         (stream_of width height (builder_says b) (is_ac kind) slice s.now out.old) }
 {
-    let size = match stream_asked(b, width, height, kind, slice, s, out.len()) {
+    let size = match stream_asked(b, width, height, kind, slice, s, out) {
         Ok(size) => size,
         Err(no) => return Err(Refused { no, state: b }),
     };
     let slices = layout::slice_count(size.height);
-    put_length(out, b.at, s.len());
+    put_length(out, b.at, s.len() as u32);
     copy::copy_in(out, b.at + 4, s);
     Ok(next_state(b, slices, b.at + 4 + s.len()))
 }
@@ -130,6 +131,7 @@ fn is_complete(slices: usize, ac_turn: bool, next: usize) -> bool
 }
 
 // Whether the frame is complete, by whose turn it is: all DC streams are there, and the AC streams of all slices or of none.
+#[tactic(auto, using(crate::proofs::streams::Laws::complete_told, crate::proofs::streams::Laws::complete_refused))]
 pub fn complete(width: usize, height: usize, ac_turn: bool, next: usize) -> Result<bool, Refusal>
     ensures { complete_says result ≡ complete_of width height ac_turn next }
 {

@@ -37,7 +37,7 @@ pub suc_not : (n : ℕ) → pos (suc n) ≡ pos 0 → ⊥
 suc_not n e = let z : suc n ≡ 0 = cc in omega arith
 
 pub neg_not : (n : ℕ) → negsuc n ≡ pos 0 → ⊥
-neg_not n e = let z : ◌≡◌ {A = ℕ} 0 1 = cc in omega arith
+neg_not n e = cc
 
 -- zeros that are still to come
 coming : (m k : ℕ) (s : Stream) (q : ℕ) (cs : List ℤ) (q' r' : ℕ)

@@ -24,7 +24,7 @@ use Rattle.calls.proofs.DcBack.{as_read, steps_back, predicted_back, length_step
 
 -- ---- what is read in two parts
 never : {cs : List ℤ} {q r : ℕ} → bad_places ≡ places cs q r → ⊥
-never e = let z : ◌≡◌ {A = ℕ} 0 1 = cc in omega arith
+never e = cc
 
 record Pushed (c : ℤ) (x : Places) (cs : List ℤ) (q r : ℕ) : Type 0 where
   rest : List ℤ

@@ -5,7 +5,7 @@ use Rattle.calls.specs.declared.Settings as code
 use Rattle.calls.specs.declared.Shape.{Shape}
 use Rattle.calls.specs.declared.Four.{Four}
 use Rattle.calls.specs.declared.Positions.{Positions}
-use Rattle.calls.specs.declared.Stream.{Stream}
+use Rattle.calls.specs.declared.Streams.{Streams}
 
 abbrev pub settings_by : Depth → code.Settings → Settings
 settings_by depth s = settings depth s.preset s.shift
@@ -24,11 +24,11 @@ abbrev pub positions_by : Positions → PerStream
 positions_by at = positions at.dc at.ac
 
 -- both streams' lengths, and where the call starts in them
-abbrev pub lengths_by : Stream → Stream → PerStream
-lengths_by dc ac = positions dc.len ac.len
+abbrev pub lengths_by : Streams → PerStream
+lengths_by s = positions s.dc.len s.ac.len
 
-abbrev pub starts_by : Stream → Stream → PerStream
-starts_by dc ac = positions dc.at ac.at
+abbrev pub starts_by : Streams → PerStream
+starts_by s = positions s.dc.at s.ac.at
 
 abbrev pub plane_call : Depth → code.Settings → Shape → List ℕ → Call
 plane_call depth s h samples = one_plane (settings_by depth s) (plane_by h samples)

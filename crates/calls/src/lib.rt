@@ -3,24 +3,25 @@
 #![tactic(auto)]
 
 ghost use Rattle.std.specs.Prelude.{◌≡◌, ◌<◌, length, take};
-ghost use Rattle.calls.specs.Views.{stride_by};
+ghost use Rattle.calls.specs.Arguments.{buffers, lengths_of};
+ghost use Rattle.calls.specs.Views.{stride_by, positions_by, lengths_by, starts_by};
 
 // How coefficients are quantised and DCs are coded.
-#[derive(Clone, Copy)]
+#[derive(Clone, Copy, Debug, PartialEq, Eq, Hash)]
 pub struct Settings {
     pub preset: usize,
     pub shift: u32,
 }
 
 // A plane's place in its picture, and the samples of a row.
-#[derive(Clone, Copy)]
+#[derive(Clone, Copy, Debug, PartialEq, Eq, Hash)]
 pub struct Shape {
     pub place: usize,
     pub stride: usize,
 }
 
 // The first `count` of four planes, by the samples of a row of each.
-#[derive(Clone, Copy)]
+#[derive(Clone, Copy, Debug, PartialEq, Eq, Hash)]
 pub struct Four {
     pub count: usize,
     pub strides: [usize; 4],
@@ -47,14 +48,14 @@ impl Four {
 }
 
 // A position in each of the two streams.
-#[derive(Clone, Copy)]
+#[derive(Clone, Copy, Debug, PartialEq, Eq, Hash)]
 pub struct Positions {
     pub dc: usize,
     pub ac: usize,
 }
 
 // A stream by its length and the position at which a call starts in it.
-#[derive(Clone, Copy)]
+#[derive(Clone, Copy, Debug, PartialEq, Eq, Hash)]
 pub struct Stream {
     pub len: usize,
     pub at: usize,
@@ -68,6 +69,26 @@ impl Stream {
         Stream {
             len: bytes.len(),
             at,
+        }
+    }
+}
+
+// Both streams of a call.
+#[derive(Clone, Copy, Debug, PartialEq, Eq, Hash)]
+pub struct Streams {
+    pub dc: Stream,
+    pub ac: Stream,
+}
+
+impl Streams {
+    // Of the bytes of both, each from its position on.
+    pub fn of(dc: &[u8], ac: &[u8], at: Positions) -> Streams
+        ensures lengths { lengths_by result ≡ lengths_of (buffers dc.now ac.now) }
+        ensures starts { starts_by result ≡ positions_by at }
+    {
+        Streams {
+            dc: Stream::of(dc, at.dc),
+            ac: Stream::of(ac, at.ac),
         }
     }
 }

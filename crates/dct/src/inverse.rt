@@ -1,5 +1,6 @@
 // A block of coefficients becomes 8 by 8 samples in the rows from its corner on: dequantising and the inverse transform (idct8 and idct16 of
 // dct.rs), then the block writer. The divisors are those of tables::decode_numbers: a caller makes them once for a plane.
+// Rows and stride go beside each other, under Corner, as in paint.
 ghost use Rattle.std.specs.Prelude.{◌≡◌, pos, length};
 ghost use Rattle.sample.specs.Depth.{is_ten};
 ghost use Rattle.paint.specs.Paint.{Corner, store_block};

@@ -8,8 +8,6 @@ use native.Mathlib.Omega.{arith}
 use lib.ListN.{length, get_or, take, drop}
 use Rattle.ask.specs.Limits.{stride_max}
 use Rattle.bits.specs.Bits.{bytes_for}
-use Rattle.tables.specs.Zigzag.{zigzag}
-use Rattle.acpairs.specs.Pairs.{Looks}
 use Rattle.sample.proofs.Lists.{samples_length, samples_take, samples_drop, samples_append}
 use Rattle.paint.specs.Paint.{store_block, sample_in_block, Corner}
 use Rattle.calls.specs.Arguments.{Settings, Plane, plane, PerStream, Buffers}
@@ -92,12 +90,12 @@ module _ {σ : Settings} {p : Plane} {b : Buffers} {at : PerStream} where
   near h x y i = (omega (arith, i.going.dc_near), omega (arith, i.going.ac_near))
 
   -- what reading the next block asks
-  pub asks : (j k : ℕ) {s : Stand} {rows z : List ℕ} (t : List ℕ) → PlaneGood σ p b at → j < 2 → k < columns_of p.stride → z ≡ zigzag → Looks t → Behind σ p b at j k s rows
-      → Ready b.dc_bytes s × (s.dc.pos < 2 ^ 58) × (s.ac < 2 ^ 58) × (σ.shift < 16) × (z ≡ zigzag) × Looks t × (good_plane (read_on σ.shift 1 b.dc_bytes b.ac_bytes s) ≡ true)
-  asks j k {s} t o hj hk e l i =
+  pub asks : (j k : ℕ) {s : Stand} {rows : List ℕ} → PlaneGood σ p b at → j < 2 → k < columns_of p.stride → Behind σ p b at j k s rows
+      → Ready b.dc_bytes s × (s.dc.pos < 2 ^ 58) × (s.ac < 2 ^ 58) × (σ.shift < 16) × (good_plane (read_on σ.shift 1 b.dc_bytes b.ac_bytes s) ≡ true)
+  asks j k {s} o hj hk i =
       let h = below (columns_of p.stride) j k hj hk in
       let n = near (omega (arith, h, o.plane.stride_le)) o.dc_start o.ac_start i in
-      (i.going.ready, n.0, n.1, omega (arith, o.settings.shift_le), e, l, good_next σ.shift (blocks_of p.stride) b.dc_bytes b.ac_bytes at.dc at.ac (in_front (columns_of p.stride) j k) s o.good h i.going)
+      (i.going.ready, n.0, n.1, omega (arith, o.settings.shift_le), good_next σ.shift (blocks_of p.stride) b.dc_bytes b.ac_bytes at.dc at.ac (in_front (columns_of p.stride) j k) s o.good h i.going)
 
   -- its corner, with eight rows after it
   pub inside : (j k : ℕ) {s : Stand} {rows : List ℕ} {c : ℕ} → PlaneGood σ p b at → j < 2 → k < columns_of p.stride → c ≡ 8 * j * p.stride + 8 * k

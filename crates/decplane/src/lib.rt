@@ -6,10 +6,12 @@ ghost use Rattle.calls.specs.Arguments.{buffers};
 ghost use Rattle.calls.specs.Views.{settings_by, plane_by, positions_by};
 ghost use Rattle.decplane.specs.Storing.{PlaneGood, PlaneStored};
 
+use acplaces::Tables;
 use calls::{Positions, Settings, Shape};
 use sample::Sample;
 
-// Stores a plane, read from these positions on; where its streams end.
+// Stores a plane, read from these positions on; where its streams end. Two loops over a block's place (row j, column k), as in encplane:
+// std's iterators cut rows into parts that lie one after the other, and a block is eight parts of eight rows, a stride apart.
 pub fn plane<S: Sample>(
     rows: &mut [S],
     h: Shape,
@@ -28,13 +30,12 @@ pub fn plane<S: Sample>(
     let shift = s.shift;
     let v = planes::lane::<S>(place);
     let q = tables::decode_numbers(preset);
-    let z = tables::zigzag_order();
-    let tab = acpairs::looks();
+    let t = Tables::new();
     let cols = stride / 8;
     let mut stand = blockread::begin(dc, at);
     for j in 0..2 {
         for k in 0..cols {
-            let g = blockread::block::next_block::<S>(dc, ac, stand, shift, &z, &tab);
+            let g = blockread::block::next_block::<S>(dc, ac, stand, shift, &t);
             let c = planes::corner(stride, j, k);
             let nat = g.nat;
             let flat = g.flat;

@@ -1,83 +1,39 @@
 -- A slice plane by plane: what the next plane asks is there, and what has been coded is the streams of the first planes.
-use mathlib.Core.Path.{◌≡◌}
-use mathlib.Core.List.{List, []}
-use Prim.Native.Nat.{ℕ, suc, ◌≤◌, ◌<◌}
+use mathlib.Core.Path.{◌≡◌, refl, sym, subst}
+use mathlib.Core.List.{List, [], ◌∷◌, ◌++◌}
+use Prim.Native.Nat.{ℕ, zero, suc, ◌+◌, ◌<◌}
 use native.Mathlib.Omega.{arith}
-use lib.ListN.{take}
-use Rattle.calls.specs.Arguments.{Settings, Rows, Plane, plane_at, Call, one_slice, planes_lent, PerStream, Buffers}
+use lib.ListN.{take, get_or}
+use Rattle.calls.specs.Arguments.{Settings, Plane, plane_at, PerStream, Buffers}
+use Rattle.calls.specs.Views.{stride_by, rows_by, plane_by}
+use Rattle.calls.specs.declared.Shape.{Shape}
+use Rattle.calls.specs.declared.Four.{Four}
 use Rattle.encplane.specs.Coding.{PlaneOk, PlaneDone}
-use Rattle.encoder.specs.Coding.{PlanesOk, SliceOk, SliceDone}
-use Rattle.encoder.proofs.Planes.{SoFar, none_yet, next_ok, one_more, first_ok, all_done}
+use Rattle.encoder.specs.Coding.{PlanesOk}
+use Rattle.encoder.proofs.Planes.{SoFar, next_ok, one_more, first_ok}
 
--- a count between two neighbours
-pub at_most : {n : ℕ} (k : ℕ) → k < n → n ≤ suc k → n ≡ suc k
-at_most k h l = omega arith
+-- the four planes, by the samples of each
+abbrev pub lent : Four → (q0 q1 q2 q3 : List ℕ) → List Plane
+lent f q0 q1 q2 q3 = plane_at 0 (rows_by f 0 q0) ∷ plane_at 1 (rows_by f 1 q1) ∷ plane_at 2 (rows_by f 2 q2) ∷ plane_at 3 (rows_by f 3 q3) ∷ []
 
-pub less_than : {n : ℕ} (k : ℕ) → k < n → n < suc (suc k) → n ≡ suc k
-less_than k h l = omega arith
+-- one plane more, by its index among four lent rows
+pub one_longer : {X : Type 0} (samples : X → List ℕ) (f : Four) (p0 p1 p2 p3 d : X) (k : ℕ) (h : Shape) → k < 4 → (h.place ≡ k) × (h.stride ≡ stride_by f k)
+    → take (k + 1) (lent f (samples p0) (samples p1) (samples p2) (samples p3))
+    ≡ take k (lent f (samples p0) (samples p1) (samples p2) (samples p3)) ++ (plane_by h (samples (get_or (p0 ∷ p1 ∷ p2 ∷ p3 ∷ []) k d)) ∷ [])
+one_longer samples f p0 p1 p2 p3 d zero h l s = rw (s.0, s.1)
+one_longer samples f p0 p1 p2 p3 d (suc zero) h l s = rw (s.0, s.1)
+one_longer samples f p0 p1 p2 p3 d (suc (suc zero)) h l s = rw (s.0, s.1)
+one_longer samples f p0 p1 p2 p3 d (suc (suc (suc zero))) h l s = rw (s.0, s.1)
+one_longer samples f p0 p1 p2 p3 d (suc (suc (suc (suc k)))) h l s = absurd (omega arith)
 
-pub record Given : Type 0 where
-  pub σ : Settings
-  pub count : ℕ
-  pub r0 : Rows
-  pub r1 : Rows
-  pub r2 : Rows
-  pub r3 : Rows
-  pub b : Buffers
-  pub at : PerStream
+-- plane p after the first k of n planes that may be coded
+module _ (σ : Settings) (b : Buffers) (at : PerStream) (n : ℕ) (all : List Plane) (ok : PlanesOk σ (take n all) b at) (k : ℕ) (p : Plane) {r : PerStream} {b' : Buffers}
+    (h : k < n) (e : take (k + 1) all ≡ take k all ++ (p ∷ [])) (c : SoFar σ b at (take k all) r b') where
+  here : PlanesOk σ (take k all ++ (p ∷ [])) b at
+  here = subst (λ (ps : List Plane). PlanesOk σ ps b at) e (first_ok σ (k + 1) n all (omega arith) ok)
 
-module _ (g : Given) where
-  abbrev call : Call
-  call = one_slice g.σ g.count g.r0 g.r1 g.r2 g.r3
+  pub turn_ok : PlaneOk σ p b' r
+  turn_ok = next_ok σ b at (take k all) p here c
 
-  abbrev lent : List Plane
-  lent = planes_lent call
-
-  -- the first n planes are coded
-  abbrev pub First : ℕ → PerStream → Buffers → Type 0
-  First n r b' = SoFar g.σ g.b g.at (take n lent) r b'
-
-  -- plane k may be coded where the others ended, and it was
-  abbrev Ask : ℕ → Rows → PerStream → Buffers → Type 0
-  Ask k w r b' = PlaneOk g.σ (plane_at k w) b' r
-
-  abbrev Did : ℕ → Rows → PerStream → Buffers → PerStream → Buffers → Type 0
-  Did k w r b' r' b'' = PlaneDone g.σ (plane_at k w) b' r r' b''
-
-  module _ (ok : SliceOk call g.b g.at) where
-    up_to : (n : ℕ) → n ≤ g.count → PlanesOk g.σ (take n lent) g.b g.at
-    up_to n h = first_ok g.σ n g.count lent h ok.planes_ok
-
-    nothing : SoFar g.σ g.b g.at [] g.at g.b
-    nothing = none_yet g.σ g.b g.at
-
-    pub ask_0 : Ask 0 g.r0 g.at g.b
-    ask_0 = next_ok g.σ g.b g.at [] (plane_at 0 g.r0) (up_to 1 ok.which.0) nothing
-
-    pub did_0 : {r : PerStream} {x : Buffers} → Did 0 g.r0 g.at g.b r x → First 1 r x
-    did_0 q = one_more g.σ g.b g.at [] (plane_at 0 g.r0) (up_to 1 ok.which.0) nothing q
-
-    module _ {r : PerStream} {x : Buffers} (f : First 1 r x) (h : 1 < g.count) where
-      pub ask_1 : Ask 1 g.r1 r x
-      ask_1 = next_ok g.σ g.b g.at (take 1 lent) (plane_at 1 g.r1) (up_to 2 h) f
-
-      pub did_1 : {r' : PerStream} {x' : Buffers} → Did 1 g.r1 r x r' x' → First 2 r' x'
-      did_1 q = one_more g.σ g.b g.at (take 1 lent) (plane_at 1 g.r1) (up_to 2 h) f q
-
-    module _ {r : PerStream} {x : Buffers} (f : First 2 r x) (h : 2 < g.count) where
-      pub ask_2 : Ask 2 g.r2 r x
-      ask_2 = next_ok g.σ g.b g.at (take 2 lent) (plane_at 2 g.r2) (up_to 3 h) f
-
-      pub did_2 : {r' : PerStream} {x' : Buffers} → Did 2 g.r2 r x r' x' → First 3 r' x'
-      did_2 q = one_more g.σ g.b g.at (take 2 lent) (plane_at 2 g.r2) (up_to 3 h) f q
-
-    module _ {r : PerStream} {x : Buffers} (f : First 3 r x) (h : 3 < g.count) where
-      pub ask_3 : Ask 3 g.r3 r x
-      ask_3 = next_ok g.σ g.b g.at (take 3 lent) (plane_at 3 g.r3) (up_to 4 h) f
-
-      pub did_3 : {r' : PerStream} {x' : Buffers} → Did 3 g.r3 r x r' x' → First 4 r' x'
-      did_3 q = one_more g.σ g.b g.at (take 3 lent) (plane_at 3 g.r3) (up_to 4 h) f q
-
-    -- as many planes as were asked for
-    pub whole : (n : ℕ) {r : PerStream} {x : Buffers} → g.count ≡ n → First n r x → SliceDone call g.b g.at r x
-    whole n e f = all_done g.σ n g.count lent e f
+  pub turn_done : {r' : PerStream} {b'' : Buffers} → PlaneDone σ p b' r r' b'' → SoFar σ b at (take (k + 1) all) r' b''
+  turn_done {r'} {b''} q = subst (λ (ps : List Plane). SoFar σ b at ps r' b'') (sym e) (one_more σ b at (take k all) p here c q)

@@ -1,5 +1,6 @@
 // The coding calls of planes and slices: the questions in their order, then the coder. Any arguments whatever are allowed:
 // a call that meets a "no" answers its number and the positions that it was given, and has written nothing.
+// The buffers of both streams and the rows of four planes are parameters of their own, as C lends them (crate vmx).
 #![tactic(auto)]
 
 ghost use Rattle.std.specs.Prelude.{◌≡◌};
@@ -9,7 +10,7 @@ ghost use Rattle.slice.specs.Calls.{encode};
 ghost use Rattle.questions.specs.answers.Code.{code_says, code_told};
 ghost use Rattle.encoder.specs.Coding.{SliceOk, SliceDone};
 
-use calls::{Four, Positions, Settings, Shape, Stream};
+use calls::{Four, Positions, Settings, Shape, Streams};
 use questions::answers::{Refused, refused_at};
 use sample::Sample;
 
@@ -25,9 +26,8 @@ pub fn encode_plane<S: Sample>(
     ensures { code_says result dcs.new acs.new
         ≡ code_told (encode (plane_call S.depth s h (S.samples rows.now)) (buffers dcs.old acs.old) (positions_by at)) }
 {
-    let dc = Stream::of(dcs, at.dc);
-    let ac = Stream::of(acs, at.ac);
-    let asked = questions::of_call::coding_plane(s, h, rows.len(), dc, ac);
+    let streams = Streams::of(dcs, acs, at);
+    let asked = questions::of_call::coding_plane(s, h, rows.len(), streams);
     refused_at(asked, at)?;
     Ok(encplane::plane(rows, h, s, dcs, acs, at))
 }
@@ -50,37 +50,12 @@ fn slice<S: Sample>(
     ensures { SliceDone (slice_call S.depth s f (S.samples p0.now) (S.samples p1.now) (S.samples p2.now) (S.samples p3.now))
         (buffers dcs.old acs.old) (positions_by at) (positions_by result) (buffers dcs.new acs.new) }
 {
-    let count = f.count;
-    let strides = f.strides;
-    let h0 = Shape {
-        place: 0,
-        stride: strides[0],
-    };
-    let e0 = encplane::plane(p0, h0, s, dcs, acs, at);
-    if count < 2 {
-        return e0;
+    let planes = [p0, p1, p2, p3];
+    let mut end = at;
+    for place in 0..f.count {
+        end = encplane::plane(planes[place], f.shape(place), s, dcs, acs, end);
     }
-    let h1 = Shape {
-        place: 1,
-        stride: strides[1],
-    };
-    let e1 = encplane::plane(p1, h1, s, dcs, acs, e0);
-    if count < 3 {
-        return e1;
-    }
-    let h2 = Shape {
-        place: 2,
-        stride: strides[2],
-    };
-    let e2 = encplane::plane(p2, h2, s, dcs, acs, e1);
-    if count < 4 {
-        return e2;
-    }
-    let h3 = Shape {
-        place: 3,
-        stride: strides[3],
-    };
-    encplane::plane(p3, h3, s, dcs, acs, e2)
+    end
 }
 
 // Codes the first `count` of four planes, places 0 to 3, each stream from its position on.
@@ -100,9 +75,8 @@ pub fn encode_slice<S: Sample>(
         (buffers dcs.old acs.old) (positions_by at)) }
 {
     let rows = [p0.len(), p1.len(), p2.len(), p3.len()];
-    let dc = Stream::of(dcs, at.dc);
-    let ac = Stream::of(acs, at.ac);
-    let asked = questions::of_call::coding_slice(s, f, rows, dc, ac);
+    let streams = Streams::of(dcs, acs, at);
+    let asked = questions::of_call::coding_slice(s, f, rows, streams);
     refused_at(asked, at)?;
     Ok(slice(p0, p1, p2, p3, f, s, dcs, acs, at))
 }

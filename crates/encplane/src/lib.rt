@@ -10,7 +10,8 @@ use entropy::short::ShortCodes;
 use quant::Quantiser;
 use sample::Sample;
 
-// Codes a plane, each stream from its position on.
+// Codes a plane, each stream from its position on. Two loops over a block's place (row j, column i): std's iterators cut rows into parts that
+// lie one after the other, and a block is eight parts of eight rows. The buffers are two parameters as in entropy::coder.
 pub fn plane<S: Sample>(
     rows: &[S],
     h: Shape,

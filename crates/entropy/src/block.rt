@@ -9,13 +9,14 @@ ghost use Rattle.bitwriter.specs.Put.{Room, Put};
 use bitwriter::BitAcc;
 
 // A writer of the AC stream, and how many zeros wait to be coded as a run.
-#[derive(Clone, Copy)]
+#[derive(Clone, Copy, Debug, PartialEq, Eq, Hash)]
 pub struct AcState {
     pub a: BitAcc,
     pub run: u32,
 }
 
 // Half a step of 2 to the power of the shift, none at shift 0.
+#[tactic(auto, using(crate::proofs::block::Codes::half_is))]
 fn half_step(shift: u32) -> i16
     requires { shift ≤ shift_max }
     ensures { result ≡ pos (half_step shift) }
@@ -28,6 +29,7 @@ fn half_step(shift: u32) -> i16
 }
 
 // The DC as it is coded: rounded and shifted right.
+#[tactic(auto, unfolding(calls::specs::Streams::coded_dc))]
 pub fn coded_dc(d: i16, shift: u32) -> i16
     requires { shift ≤ shift_max }
     ensures { result ≡ coded_dc shift d }
@@ -36,6 +38,7 @@ pub fn coded_dc(d: i16, shift: u32) -> i16
 }
 
 // Appends a DC step: `11` for 0, else its value code.
+#[tactic(auto, using(crate::proofs::block::Codes::zero_step_lem, crate::proofs::block::Codes::value_step, crate::proofs::block::Codes::room_by, crate::proofs::block::Codes::put_by, crate::proofs::block::Codes::code_step, crate::proofs::block::Codes::code_some))]
 pub fn dc_block(a: BitAcc, step: i32, out: &mut [u8]) -> BitAcc
     requires { (nat_abs step ≤ 4096) × Room a (length (step_code step)) out.old }
     ensures { Put a out.old (step_code step) result out.new }
@@ -48,6 +51,7 @@ pub fn dc_block(a: BitAcc, step: i32, out: &mut [u8]) -> BitAcc
 }
 
 // The code of a coefficient.
+#[tactic(auto, using(crate::proofs::block::Codes::code_16))]
 pub fn code(v: i16) -> u32
     ensures { result ≡ code_of v }
 {

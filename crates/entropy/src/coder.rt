@@ -1,4 +1,7 @@
 // A block in both streams. Each depth has its own: so the compiler makes it part of the plane's loop.
+//
+// The two buffers stay two parameters: each function that takes a struct which lends them would also have to promise of both fields that
+// they still lend the same ones (`out.new.dc.ghost_name ≡ out.old.dc.ghost_name`).
 ghost use Rattle.std.specs.Prelude.{◌≡◌, [], ◌∷◌, ◌+◌, ◌^◌, ◌≤◌, pos, length};
 ghost use Rattle.shuffles.specs.Shuffles.{nonzero_mask};
 ghost use Rattle.calls.specs.Streams.{with_dc};
@@ -12,7 +15,8 @@ use crate::short::ShortCodes;
 use sample::Sample;
 
 // Appends the places of a block, place 0 taken as zero: each non-zero coefficient with the run of zeros before it.
-// The mask has the non-zero places; only they are visited.
+// The mask has the non-zero places; only they are visited. A `while` over the places that are left: no index is counted, and an iterator
+// over set bits, which std lacks, would be these two lines (the lowest place, the mask without it) in a `next` of a struct with its own law.
 pub fn ac_block<S: Sample>(
     s: AcState,
     z: &[i16; 64],
@@ -30,11 +34,11 @@ pub fn ac_block<S: Sample>(
     let mut m = mask / 2 * 2;
     let mut at = 1;
     while m != 0 {
-        let p = u64::trailing_zeros(m);
+        let p = m.trailing_zeros();
         let e = codes.pair(run + (p - at), z[p as usize]);
         a = bitwriter::put(a, e.bits, e.length, out);
         run = 0;
-        m = m & (m - 1);
+        m &= m - 1;
         at = p + 1;
     }
     AcState {

@@ -8,7 +8,7 @@ use bitwriter::BitAcc;
 use calls::Positions;
 
 // Both writers, the zeros that wait to be coded as a run, and the coded DC of the block before.
-#[derive(Clone, Copy)]
+#[derive(Clone, Copy, Debug, PartialEq, Eq, Hash)]
 pub struct PlaneState {
     pub dc: BitAcc,
     pub ac: BitAcc,
@@ -21,16 +21,8 @@ pub fn begin(at: Positions) -> PlaneState
     ensures { result ≡ start_of (positions_by at) }
 {
     PlaneState {
-        dc: BitAcc {
-            acc: 0,
-            nbits: 0,
-            pos: at.dc,
-        },
-        ac: BitAcc {
-            acc: 0,
-            nbits: 0,
-            pos: at.ac,
-        },
+        dc: BitAcc::starting_at(at.dc),
+        ac: BitAcc::starting_at(at.ac),
         run: 0,
         pred: 0,
     }
@@ -41,10 +33,8 @@ pub fn end(s: PlaneState, dcs: &mut [u8], acs: &mut [u8]) -> Positions
     requires { EndRoom s dcs.old acs.old }
     ensures { Ended s dcs.old acs.old (positions_by result) dcs.new acs.new }
 {
-    let dc = s.dc;
-    let ac = s.ac;
-    let a = bitwriter::align(bitwriter::put_run(ac, s.run, acs), acs);
-    let d = bitwriter::align(dc, dcs);
+    let a = bitwriter::align(bitwriter::put_run(s.ac, s.run, acs), acs);
+    let d = bitwriter::align(s.dc, dcs);
     Positions {
         dc: d.pos,
         ac: a.pos,

@@ -1,5 +1,6 @@
 // Pairs of a short run and a small value, which most pairs of a plane are: their codes by table. A table is copied out once for each
-// plane: a constant that a loop indexes would be built anew in each turn.
+// plane: a constant that a loop indexes would be built anew in each turn. What a run and a value must be (n < 2 ^ 17, a code from 1 below
+// 2 ^ 15) stands as clauses, as in crate bitwriter: the caller knows it from its mask, and no test makes it.
 mod table;
 
 ghost use Rattle.std.specs.Prelude.{◌≡◌, ◌^◌, ◌<◌};
@@ -13,7 +14,7 @@ use bitwriter::PairCode;
 fn place(v: i16) -> u32
     ensures { result ≡ place_of v }
 {
-    (scalar::bits16(v) + 127) % 65536
+    u32::from(v.cast_unsigned().wrapping_add(127))
 }
 
 // The codes of short runs and small values, made once for each plane and passed by reference.
@@ -50,6 +51,7 @@ impl ShortCodes {
     }
 
     // The code of a run and a coefficient.
+    #[tactic(auto, using(crate::proofs::short::Laws::place_code))]
     pub fn pair(&self, n: u32, v: i16) -> PairCode
         requires { (n < 2 ^ 17) × (0 < code_of v) × (code_of v < 2 ^ 15) }
         ensures { result ≡ pair_code n (code_of v) }

@@ -2,9 +2,8 @@
 use mathlib.Core.Bool.{Bool}
 use mathlib.Core.List.{List}
 use mathlib.Core.Path.{◌≡◌, sym, subst}
-use Prim.Native.Nat.{ℕ, ◌/◌, ◌%◌, ◌<◌, ◌≤◌}
-use native.Mathlib.Omega.{arith}
-use lib.IntN.{ℤ, pos, negsuc, nat_abs}
+use Prim.Native.Nat.{ℕ, ◌/◌, ◌%◌, ◌<◌}
+use lib.IntN.{ℤ, pos}
 use lib.ListN.{length, get_or}
 use mir.Syntax.{w16}
 use mir.Val.{SFits}
@@ -40,11 +39,3 @@ transform_fits shift add b i h = rows_fits (forward_columns_of shift (level_shif
 pub forward_fits : (ten : Bool) (level : ℤ) (b : List ℤ) (i : ℕ) → i < 64 → SFits w16 (get_or (forward_of ten level b) i (pos 0))
 unfolding forward_of
 forward_fits ten level b i h = transform_fits (column_shift ten) _ b i h
-
-fits_abs : (z : ℤ) → SFits w16 z → nat_abs z ≤ 32768
-fits_abs (pos n) h = omega arith
-fits_abs (negsuc n) h = omega arith
-
--- the quantiser's magnitudes are at most 32768
-pub forward_abs : (ten : Bool) (level : ℤ) (b : List ℤ) (i : ℕ) → i < 64 → nat_abs (get_or (forward_of ten level b) i (pos 0)) ≤ 32768
-forward_abs ten level b i h = fits_abs _ (forward_fits ten level b i h)

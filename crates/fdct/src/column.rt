@@ -1,5 +1,9 @@
 // The column pass of the forward transform, on rows of eight lanes (dct.rs, fdct_quant_zig, "Column pass").
 // The steps and their order are the Rust's; `shift` is 3 for 8-bit samples and 1 for 10-bit samples.
+// `shift` stays a number with the clause `shift < 15`, here and in lib: the contracts hold at each such shift (docs/DECISIONS.md), and
+// S::COLUMN_SHIFT in its place would leave two of them; a type that keeps the fact would be made from a number under the same clause,
+// and taken apart in both stages, which shift by the number and by the next.
+// The rows stay arguments, as the steps name them: a struct of them would be built for each call and taken apart in its first lines.
 ghost use Rattle.std.specs.Prelude.{◌≡◌, ◌<◌};
 ghost use Rattle.fdct.specs.column.Rows.{butterfly_rows, forward_even_rows, forward_odd_rows};
 
@@ -21,7 +25,7 @@ pub const FDCT_TAN3: i16 = -21746;
 pub const FDCT_SQRT2: i16 = 23170;
 
 // What the first steps make of eight rows: sums for the even rows, differences of opposite rows for the odd ones.
-#[derive(Clone, Copy)]
+#[derive(Clone, Copy, Debug, PartialEq, Eq, Hash)]
 pub struct SideRows {
     pub tp03: [i16; 8],
     pub tp12: [i16; 8],
@@ -33,7 +37,7 @@ pub struct SideRows {
     pub d3: [i16; 8],
 }
 
-#[derive(Clone, Copy)]
+#[derive(Clone, Copy, Debug, PartialEq, Eq, Hash)]
 pub struct EvenRows {
     pub c0: [i16; 8],
     pub c2: [i16; 8],
@@ -41,7 +45,7 @@ pub struct EvenRows {
     pub c6: [i16; 8],
 }
 
-#[derive(Clone, Copy)]
+#[derive(Clone, Copy, Debug, PartialEq, Eq, Hash)]
 pub struct OddRows {
     pub c1: [i16; 8],
     pub c3: [i16; 8],
@@ -50,6 +54,7 @@ pub struct OddRows {
 }
 
 // Sums and differences of opposite rows.
+#[tactic(auto, using(crate::proofs::column::Lanewise::butterfly_law), unfolding(crate::proofs::column::Lanewise::make_side_rows))]
 pub fn butterfly<S: Sample>(
     x0: [i16; 8],
     x1: [i16; 8],
@@ -89,6 +94,7 @@ pub fn butterfly<S: Sample>(
 }
 
 // Rows 0, 2, 4 and 6.
+#[tactic(auto, using(crate::proofs::column::Lanewise::even_law), unfolding(crate::proofs::column::Lanewise::make_even_rows))]
 pub fn even<S: Sample>(
     tp03: [i16; 8],
     tp12: [i16; 8],
@@ -118,6 +124,7 @@ pub fn even<S: Sample>(
 }
 
 // Rows 1, 3, 5 and 7.
+#[tactic(auto, using(crate::proofs::column::Lanewise::odd_law), unfolding(crate::proofs::column::Lanewise::make_odd_rows))]
 pub fn odd<S: Sample>(d0: [i16; 8], d1: [i16; 8], d2: [i16; 8], d3: [i16; 8], shift: u32) -> OddRows
     requires { shift < 15 }
     ensures { result ≡ forward_odd_rows shift d0 d1 d2 d3 }

@@ -16,6 +16,7 @@ use lanes::rows::{put, row};
 use sample::Sample;
 
 // Even and odd rows in turn.
+#[tactic(auto, using(crate::proofs::column::Puts::eight_put))]
 fn joined<S: Sample>(e: EvenRows, o: OddRows) -> [i16; 64]
     ensures { result ≡ block_of (rows_of e o) }
 {
@@ -32,6 +33,7 @@ fn joined<S: Sample>(e: EvenRows, o: OddRows) -> [i16; 64]
 }
 
 // The column pass, all eight columns at once.
+#[tactic(auto, using(crate::proofs::column::Columns::columns_law))]
 pub fn columns<S: Sample>(b: [i16; 64], shift: u32) -> [i16; 64]
     requires { shift < 15 }
     ensures { result ≡ forward_columns_of shift b }
@@ -53,6 +55,7 @@ pub fn columns<S: Sample>(b: [i16; 64], shift: u32) -> [i16; 64]
 
 // The forward transform: add is the level shift, shift is 3 for 8-bit samples and 1 for 10-bit samples. Each depth has its own: so the
 // compiler makes it part of the plane's loop.
+#[tactic(auto, unfolding(crate::specs::Forward::transform_of))]
 pub fn fdct<S: Sample>(block: [i16; 64], add: i16, shift: u32) -> [i16; 64]
     requires { shift < 15 }
     ensures { result ≡ transform_of shift add block }

@@ -29,7 +29,7 @@ frame_is b out at xs h e =
     ap (λ (k : ℕ). take k (drop at (lay out at xs))) n ∙ laid_part out at xs h
 
 after : (x : Answer Built) (at : ℕ) (read : List ℕ → Answer (List ℕ)) {f : List ℕ} → and_then x (λ b. accepted (frame_in at b)) ≡ accepted f → and_then x (λ b. read (frame_in at b)) ≡ read f
-after (refused n) at read e = absurd (let z : ◌≡◌ {A = ℕ} 0 1 = cc in omega arith)
+after (refused n) at read e = absurd (cc)
 after (accepted b) at read {f} e = let g : frame_in at b ≡ f = cc in ap read g
 
 module _ (w h : ℕ) (interlaced : Bool) (quality shift : ℕ) where

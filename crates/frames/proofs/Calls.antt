@@ -190,7 +190,7 @@ counts slices true next dc ac g = rw (eq-eqb (length dc) slices g.0, g.1)
 
 -- what the counts of a whole frame say
 no_truth : {A : Type 0} → false ≡ true → A
-no_truth e = absurd (let z : ◌≡◌ {A = ℕ} 0 1 = cc in omega arith)
+no_truth e = absurd (cc)
 
 all_dc : (slices d a : ℕ) → whole_counts slices d a ≡ true → d ≡ slices
 all_dc slices d a e = go (eqb d slices) refl
@@ -242,7 +242,7 @@ module _ (w h : ℕ) (interlaced : Bool) (quality shift : ℕ) (out : List ℕ) 
   began = go (first_no (start_questions w h shift (length out) at)) refl
     where
       never : {n : ℕ} → ◌≡◌ {A = Answer Built} (refused n) (accepted first) → ⊥
-      never f = let z : ◌≡◌ {A = ℕ} 0 1 = cc in omega arith
+      never f = cc
 
       go : (n : ℕ) → first_no (start_questions w h shift (length out) at) ≡ n → Begun
       go zero f =

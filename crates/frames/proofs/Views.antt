@@ -117,8 +117,8 @@ none = refl
 
 -- a legal size has a slice
 not_so : (a : Bool) → a && false ≡ true → ⊥
-not_so true e = let z : ◌≡◌ {A = ℕ} 0 1 = cc in omega arith
-not_so false e = let z : ◌≡◌ {A = ℕ} 0 1 = cc in omega arith
+not_so true e = cc
+not_so false e = cc
 
 pub a_slice : (w h : ℕ) → size_ok w h ≡ true → 0 ≡ slice_count h → ⊥
 a_slice w h e n =

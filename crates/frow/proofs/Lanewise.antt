@@ -13,10 +13,9 @@ use Rattle.lanes.specs.Lanes.{mm_set1_epi32, mm_adds_epi16, mm_subs_epi16, mm_ad
 use Rattle.lanes.specs.rows.Block.{row_of, wide_of, block_of}
 use Rattle.lanes.proofs.rows.Loops.{row_at_lem, block_at_lem}
 use Rattle.shuffles.specs.Shuffles.{selector, pair_place, high_place, mm_shuffle_epi32_16, mm_shufflehi_epi16}
-use Rattle.frow.specs.declared.sides.RowSides.{RowSides}
 use Rattle.frow.specs.declared.sides.SideBlocks.{SideBlocks}
 use Rattle.frow.specs.rounding.Tail.{tail_of, rounded_of, weave_of, end_row}
-use Rattle.frow.specs.sides.Halves.{left_of, right_of, row_sums_of, row_diffs_of, row_sides_of}
+use Rattle.frow.specs.sides.Halves.{left_of, right_of, row_sums_of, row_diffs_of}
 use Rattle.frow.specs.steps.Order.{swap_row, swapped_of}
 use Rattle.frow.specs.steps.Sides.{at}
 
@@ -61,26 +60,8 @@ swapped_at a i h =
 
 -- ---- what the calls of the code return
 
-unfoldable pub make_sides : List ℤ → List ℤ → RowSides
-make_sides s d = record { sums = s; diffs = d }
-
-pub sides_law : (x : List ℤ) {l h r s d : List ℤ} → l ≡ mm_shuffle_epi32_16 x 68 → h ≡ mm_shufflehi_epi16 x 27 → r ≡ mm_shuffle_epi32_16 h 238
-    → s ≡ mm_adds_epi16 l r → d ≡ mm_subs_epi16 l r → make_sides s d ≡ row_sides_of x
-unfolding make_sides row_sums_of row_diffs_of left_of right_of
-sides_law x el eh er es ed = rw (es, ed, el, er, eh) refl
-
 unfoldable pub make_blocks : List ℤ → List ℤ → SideBlocks
 make_blocks s d = record { sums = s; diffs = d }
 
 pub blocks_eq : {s d s' d' : List ℤ} → s ≡ s' → d ≡ d' → make_blocks s d ≡ make_blocks s' d'
 blocks_eq e f = rw (e, f) refl
-
-pub rounded_law : (near far : List ℤ) {a h b r : List ℤ} → a ≡ mm_add_epi32 near far → h ≡ mm_set1_epi32 (pos 32768) → b ≡ mm_add_epi32 a h → r ≡ mm_srai_epi32 b 16
-    → r ≡ rounded_of near far
-unfolding rounded_of
-rounded_law near far ea eh eb er = rw (er, eb, ea, eh) refl
-
-pub end_law : (m0 m1 m2 m3 : List ℤ) (r : ℕ) {n0 n1 n2 n3 even odd p w : List ℤ} → n0 ≡ wide_of m0 r → n1 ≡ wide_of m1 r → even ≡ rounded_of n0 n1
-    → n2 ≡ wide_of m2 r → n3 ≡ wide_of m3 r → odd ≡ rounded_of n2 n3 → p ≡ mm_packs_epi32 even odd → w ≡ weave_of p → w ≡ end_row m0 m1 m2 m3 r
-unfolding end_row
-end_law m0 m1 m2 m3 r e0 e1 ee e2 e3 eo ep ew = rw (ew, ep, ee, eo, e0, e1, e2, e3) refl

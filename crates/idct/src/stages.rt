@@ -97,14 +97,18 @@ fn even<S: Sample>(x0: [i16; 8], x2: [i16; 8], x4: [i16; 8], x6: [i16; 8]) -> Fo
 fn joined<S: Sample>(o: Four, e: Four) -> [i16; 64]
     ensures { result ≡ block_of (inverse_join_rows S.COL_SHIFT o e) }
 {
-    let o0 = o.r0;
-    let o1 = o.r1;
-    let o2 = o.r2;
-    let o3 = o.r3;
-    let e0 = e.r0;
-    let e1 = e.r1;
-    let e2 = e.r2;
-    let e3 = e.r3;
+    let Four {
+        r0: o0,
+        r1: o1,
+        r2: o2,
+        r3: o3,
+    } = o;
+    let Four {
+        r0: e0,
+        r1: e1,
+        r2: e2,
+        r3: e3,
+    } = e;
     let shift = S::COL_SHIFT;
     let mut y = [0i16; 64];
     let y0 = srai16(adds(o0, e0), shift);

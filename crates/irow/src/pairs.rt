@@ -1,20 +1,23 @@
 // The rows of a block spread for their products, and the products in pairs.
-ghost use Rattle.std.specs.Prelude.{◌≡◌, ◌≤◌};
+ghost use Rattle.std.specs.Prelude.{◌≡◌, ◌<◌, ◌≤◌};
+ghost use Rattle.shuffles.specs.Shuffles.{mm_shuffle_epi32_16};
+ghost use Rattle.lanes.specs.rows.Block.{row_of};
 ghost use Rattle.irow.specs.pairs.Pairs.{spread_by, inverse_pairs_of};
 
-use lanes::rows::{put, row};
+use lanes::maps::each;
+use lanes::rows::{each_row, row};
 use shuffles::shuffle32_16;
 
 // The pairs of each row in the order that imm chooses.
 pub fn spread(a: &[i16; 64], imm: u8) -> [i16; 64]
     ensures { result ≡ spread_by a.now imm }
 {
-    let mut x = [0i16; 64];
-    for r in 0..8 {
-        let y = shuffle32_16(row(a, r), imm);
-        put(&mut x, r, y);
-    }
-    x
+    each_row(
+        |r| -> [i16; 8]
+            requires { r < 8 }
+            ensures { result ≡ mm_shuffle_epi32_16 (row_of a.entry.now r) imm }
+        { shuffle32_16(row(a, r), imm) },
+    )
 }
 
 // Neighbours of x multiplied by those of the table from `from` on, and added. One loop over the block, the second product first: so the
@@ -23,10 +26,8 @@ pub fn pairs(x: &[i16; 64], t: &[i16; 256], from: usize) -> [i32; 32]
     requires { from ≤ 192 }
     ensures { result ≡ inverse_pairs_of x.now t.now from }
 {
-    let mut m = [0i32; 32];
-    for i in 0..32 {
+    each(|i| {
         let k = 2 * i;
-        m[i] = scalar::madd1(x[k + 1], t[from + (k + 1)], x[k], t[from + k]);
-    }
-    m
+        scalar::madd1(x[k + 1], t[from + (k + 1)], x[k], t[from + k])
+    })
 }

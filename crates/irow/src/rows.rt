@@ -1,13 +1,14 @@
 // The row pass. Each depth has its own instance of it, and each of its functions one caller there: so the compiler makes the pass part
 // of that depth's loop over blocks.
-ghost use Rattle.std.specs.Prelude.{◌≡◌};
+ghost use Rattle.std.specs.Prelude.{◌≡◌, ◌<◌};
+ghost use Rattle.lanes.specs.rows.Block.{wide_of};
 ghost use Rattle.irow.specs.Stages.{inverse_tab, paired_rows};
 ghost use Rattle.irow.specs.sums.Rows.{sums_row};
 ghost use Rattle.irow.specs.sums.Sums.{rows_from};
 
 use crate::pairs::{pairs, spread};
 use lanes::packs::packs32;
-use lanes::rows::{put, wide};
+use lanes::rows::{each_row, wide};
 use lanes::splat32;
 use lanes::wide::{add32, srai32, sub32};
 use sample::Sample;
@@ -40,12 +41,12 @@ fn row_sums<S: Sample>(x0: [i32; 4], x1: [i32; 4], x2: [i32; 4], x3: [i32; 4]) -
 fn sums<S: Sample>(m0: [i32; 32], m1: [i32; 32], m2: [i32; 32], m3: [i32; 32]) -> [i16; 64]
     ensures { result ≡ rows_from S.ROW_ROUND S.ROW_SHIFT m0 m1 m2 m3 }
 {
-    let mut w = [0i16; 64];
-    for r in 0..8 {
-        let y = row_sums::<S>(wide(&m0, r), wide(&m1, r), wide(&m2, r), wide(&m3, r));
-        put(&mut w, r, y);
-    }
-    w
+    each_row(
+        |r| -> [i16; 8]
+            requires { r < 8 }
+            ensures { result ≡ sums_row S.ROW_ROUND S.ROW_SHIFT (wide_of m0 r) (wide_of m1 r) (wide_of m2 r) (wide_of m3 r) }
+        { row_sums::<S>(wide(&m0, r), wide(&m1, r), wide(&m2, r), wide(&m3, r)) },
+    )
 }
 
 // The row pass on a block whose rows stand in the order 0 2 1 3 4 6 5 7, each row's right half mirrored (proofs/Pass, rows-law).

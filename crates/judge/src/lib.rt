@@ -1,5 +1,7 @@
 // Is there a bad code in what a reading call reaches? Judged before any sample is stored.
 // A stream without six zero bytes in a row holds none (bitreader::scan); only another is read through. Each stream is judged by itself.
+// How far a position may be is said by each contract, and by no type: 2 ^ 30 where a call begins, 2 ^ 31 behind a plane that was read; and
+// `Positions` are also what a refused call hands back, any numbers. `columns ≤ 960` is a stride's limit in samples, asked by `questions`.
 #![tactic(auto)]
 
 pub mod verdict;

@@ -6,7 +6,7 @@ ghost use Rattle.calls.specs.Views.{positions_by};
 ghost use Rattle.judge.specs.verdict.Verdict.{PlaneVerdict, SliceVerdict};
 
 use ask::{Refusal, ask};
-use calls::{Four, Positions, Settings, Shape, Stream};
+use calls::{Four, Positions, Settings, Shape, Streams};
 use questions::of_call;
 
 // Of a plane whose rows have so many samples.
@@ -20,7 +20,7 @@ pub fn plane(
 ) -> Result<(), Refusal>
     ensures { PlaneVerdict s h rows (buffers dc.now ac.now) (positions_by at) (given result) }
 {
-    of_call::reading_plane(s, h, rows, Stream::of(dc, at.dc), Stream::of(ac, at.ac))?;
+    of_call::reading_plane(s, h, rows, Streams::of(dc, ac, at))?;
     ask(crate::plane(dc, ac, h.stride / 8, at), Refusal::Code)
 }
 
@@ -35,6 +35,6 @@ pub fn slice(
 ) -> Result<(), Refusal>
     ensures { SliceVerdict s f rows (buffers dc.now ac.now) (positions_by at) (given result) }
 {
-    of_call::reading_slice(s, f, rows, Stream::of(dc, at.dc), Stream::of(ac, at.ac))?;
+    of_call::reading_slice(s, f, rows, Streams::of(dc, ac, at))?;
     ask(crate::slice(dc, ac, f, at), Refusal::Code)
 }

@@ -1,4 +1,6 @@
 // Bits of eight lanes: joined and shifted (lanes.rs).
+// srai16 here and srai32 in wide are map1 at an operator of each type (scalar::shifts): one for both would need a trait for that operator
+// and for the bound of n, with two impls of one line. n < 16 and n < 32 are what scalar's shifts ask.
 ghost use Rattle.std.specs.Prelude.{◌≡◌, ◌<◌};
 ghost use Rattle.lanes.specs.Lanes.{mm_or_si128, mm_srai_epi16, mm_slli_epi16};
 

@@ -1,4 +1,4 @@
-// Operations on four lanes of 32 bits (lanes.rs).
+// Operations on four lanes of 32 bits (lanes.rs). Those that 16 bits have too are one map each at the operator of their type.
 ghost use Rattle.std.specs.Prelude.{◌≡◌, ◌<◌};
 ghost use Rattle.lanes.specs.Lanes.{mm_add_epi32, mm_sub_epi32, mm_srai_epi32};
 

@@ -23,7 +23,7 @@ and_right true b e = e
 and_right false b e = absurd (false_true e)
   where
     false_true : false ≡ true → ⊥
-    false_true e = let z : ◌≡◌ {A = ℕ} 0 1 = cc in omega arith
+    false_true e = cc
 
 pub record Sized (w h : ℕ) : Type 0 where
   pub wide : w ≤ width_max

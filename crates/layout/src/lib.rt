@@ -43,6 +43,7 @@ pub struct FrameSize {
 
 impl FrameSize {
     // The size, or refusal 9.
+    #[tactic(auto, using(crate::proofs::Laws::sized_alone))]
     pub fn new(width: usize, height: usize) -> Result<FrameSize, Refusal>
         ensures asked { given result ≡ first_no (size_question width height ∷ []) }
         ensures same { IfOk result (λ size. (size.width ≡ width) × (size.height ≡ height)) }
@@ -78,6 +79,8 @@ pub fn size_asked(width: usize, height: usize) -> Result<(), Refusal>
 {
     ask(size_ok(width, height), Refusal::Size)
 }
+
+// Below, a width's or a height's limit stands in each contract, and in no type: a caller may have one of the two, `FrameSize` has both.
 
 // v rounded up to a multiple of 8.
 fn align8(v: usize) -> usize
@@ -121,6 +124,7 @@ pub fn max_ac_len(width: usize) -> usize
 
 impl Layout {
     // The geometry of a frame size, or refusal 9.
+    #[tactic(auto, using(crate::proofs::Laws::fits, crate::proofs::Laws::no_size_lem))]
     pub fn new(width: usize, height: usize) -> Result<Layout, Refusal>
         ensures { layout_says result ≡ layout_of width height }
     {

@@ -1,5 +1,7 @@
 // Answers of the calls on frames, handed out: the number is returned, the rest of the answer goes into the places that the
 // caller lends for it. A refusal leaves them as they were; a refused part has offset 0 and length 0.
+//
+// Numbers stand here for truth values, kinds and verdicts, and places for the parts of an answer: they are those of C.
 ghost use Rattle.std.specs.Prelude.{◌≡◌, List, ℕ};
 ghost use Rattle.ask.specs.Ask.{Answer};
 ghost use Rattle.layout.specs.Views.{layout_says, row_says, is_ac};
@@ -25,7 +27,7 @@ use parser::head::Header;
 pub fn flag(b: bool) -> u32
     ensures { result ≡ flag_of b }
 {
-    if b { 1 } else { 0 }
+    u32::from(b)
 }
 
 // Which stream is meant: DC by 0, AC by any other number.

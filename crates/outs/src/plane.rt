@@ -14,35 +14,24 @@ use ask::Refusal;
 use calls::Positions;
 use questions::answers::{Lengths, Refused};
 
-// A number returned, and both positions into their places.
-fn positions_out(number: u32, at: Positions, dc_at: &mut usize, ac_at: &mut usize) -> u32
-    ensures { (result ≡ number) × (dc_at.new ≡ at.dc) × (ac_at.new ≡ at.ac) }
+// Of a call that codes or reads: both positions, as they were given where it is refused.
+pub fn positions_out(
+    answer: Result<Positions, Refused>,
+    dc_at: &mut usize,
+    ac_at: &mut usize,
+) -> u32
+    ensures coded { (dcs : List ℕ) (acs : List ℕ)
+        → coded_as result dc_at.new ac_at.new dcs acs ≡ content (code_says answer dcs acs) }
+    ensures read { (lent : List (List ℕ))
+        → decoded_as result dc_at.new ac_at.new lent ≡ content (read_says answer lent) }
 {
+    let (number, at) = match answer {
+        Ok(end) => (0, end),
+        Err(refused) => (refused.no.number(), refused.start),
+    };
     *dc_at = at.dc;
     *ac_at = at.ac;
     number
-}
-
-// Of a coding call: both positions, as they were given where it is refused.
-pub fn coded_out(answer: Result<Positions, Refused>, dc_at: &mut usize, ac_at: &mut usize) -> u32
-    ensures { (dcs : List ℕ) (acs : List ℕ)
-        → coded_as result dc_at.new ac_at.new dcs acs ≡ content (code_says answer dcs acs) }
-{
-    match answer {
-        Err(e) => positions_out(e.no.number(), e.start, dc_at, ac_at),
-        Ok(end) => positions_out(0, end, dc_at, ac_at),
-    }
-}
-
-// Of a reading call.
-pub fn read_out(answer: Result<Positions, Refused>, dc_at: &mut usize, ac_at: &mut usize) -> u32
-    ensures { (lent : List (List ℕ))
-        → decoded_as result dc_at.new ac_at.new lent ≡ content (read_says answer lent) }
-{
-    match answer {
-        Err(refused) => positions_out(refused.no.number(), refused.start, dc_at, ac_at),
-        Ok(end) => positions_out(0, end, dc_at, ac_at),
-    }
 }
 
 // Of a preview: the position after the plane's DC stream; a refusal leaves the place as it was.

@@ -1,4 +1,5 @@
 // The block writers: each receives the rows from the block's corner on and stores 8 by 8 samples at the stride.
+// Corner names the fact that rows and stride fit: a struct of both would be made for each block of a plane, and be taken apart here.
 #![tactic(auto)]
 
 pub mod flat_sample;

@@ -27,6 +27,7 @@ pub struct View {
 }
 
 // Reads a frame's header and walks its streams: the answer to all questions about the frame.
+#[tactic(auto, using(crate::proofs::Laws::frame_no, crate::proofs::Laws::dc_no, crate::proofs::Laws::dc_only, crate::proofs::Laws::ac_no, crate::proofs::Laws::ac_too, crate::proofs::Laws::dc_walk, crate::proofs::Laws::ac_walk))]
 pub fn parse(width: usize, height: usize, frame: &[u8]) -> Result<Header, Refusal>
     ensures { frame_says result ≡ parse_of width height frame.now }
 {
@@ -42,6 +43,7 @@ pub fn parse(width: usize, height: usize, frame: &[u8]) -> Result<Header, Refusa
 }
 
 // Of the n streams at p: where the one after `skip` others begins, if it is one of them, and the place after them all.
+#[tactic(auto, using(crate::proofs::Laws::past, crate::proofs::Laws::past_no))]
 fn walk_past(
     f: &[u8],
     n: usize,
@@ -77,6 +79,7 @@ fn part_at(f: &[u8], limit: usize, q: usize, slice: usize, n: usize) -> Result<V
 }
 
 // Where the DC or AC stream of a slice lies in the frame, and its length: noted while all streams are judged.
+#[tactic(auto, using(crate::proofs::Laws::frame_no, crate::proofs::Laws::dc_no, crate::proofs::Laws::dc_only, crate::proofs::Laws::ac_no, crate::proofs::Laws::ac_too, crate::proofs::Laws::dc_walk, crate::proofs::Laws::ac_walk, crate::proofs::Laws::nth_from, crate::proofs::Laws::dc_nth, crate::proofs::Laws::ac_nth, crate::proofs::Laws::view_no, crate::proofs::Laws::dc_wanted, crate::proofs::Laws::ac_wanted, crate::proofs::Laws::ac_missing))]
 pub fn view_at(
     width: usize,
     height: usize,

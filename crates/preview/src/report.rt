@@ -1,6 +1,8 @@
 // The block report: which blocks of a plane no AC symbol is read for, from the plane's AC stream alone.
 // The stream is judged before a byte is stored.
-ghost use Rattle.std.specs.Prelude.{◌≡◌, true, List, ℕ, ◌*◌, ◌^◌, ◌≤◌, ◌<◌, length};
+// `at ≤ start_max` is said by each contract, and by no type: a start is any number until it was asked (`report_asked`), and only
+// `store_report` and `store_blocks` stand behind the questions.
+ghost use Rattle.std.specs.Prelude.{◌≡◌, true, ◌*◌, ◌^◌, ◌≤◌, ◌<◌, length};
 ghost use Rattle.ask.specs.Ask.{accepted};
 ghost use Rattle.ask.specs.Refusals.{given};
 ghost use Rattle.ask.specs.Limits.{start_max};
@@ -8,40 +10,39 @@ ghost use Rattle.bits.specs.Bits.{bit_at};
 ghost use Rattle.bits.specs.Lay.{lay};
 ghost use Rattle.calls.specs.ReadPlane.{read_blocks};
 ghost use Rattle.calls.specs.Previews.{block_report};
-ghost use Rattle.acread.specs.Going.{LooksFrom};
+ghost use Rattle.acread.specs.Going.{LooksIn};
 ghost use Rattle.acread.specs.through.Through.{block_ends, good_ends, reports_of, ac_end};
 ghost use Rattle.preview.specs.report.Report.{ReportNumber, report_says, report_told};
 
-use acpairs::{DENSE, LOOK, NEVER};
+use acpairs::DENSE;
 use ask::{Refusal, ask};
 use calls::Stream;
 
-// From how many bits on a word is looked up in the table, after a block that went from the bit p to q.
-fn least_after(p: usize, q: usize, first: u32) -> u32
-    requires { p < 2 ^ 60 }
-    ensures { (t : List ℕ) → LooksFrom first t → LooksFrom result t }
+// The table after a block that went from the bit p to q: none after a dense one.
+fn table_after(p: usize, q: usize, tab: Option<&[u32]>) -> Option<&[u32]>
+    requires { (p < 2 ^ 60) × LooksIn tab }
+    ensures { LooksIn result }
 {
-    if q < p + DENSE { first } else { NEVER }
+    if q < p + DENSE { tab } else { None }
 }
 
-// Stores one byte a block, for n blocks of a stream that was judged good; the byte after them. Words of at least `first` bits are
-// looked up in the table.
-fn store_blocks(ac: &[u8], at: usize, n: usize, first: u32, tab: &[u32], report: &mut [u8]) -> usize
-    requires { (at ≤ start_max) × (n ≤ 1920) × LooksFrom first tab.now × (n ≤ length report.old)
-        × (good_ends (block_ends (read_blocks n (bit_at ac.now) (8 * at) 0)) ≡ true) }
-    ensures { (accepted result ≡ ac_end (read_blocks n (bit_at ac.now) (8 * at) 0))
-        × (report.new ≡ lay report.old 0 (reports_of (read_blocks n (bit_at ac.now) (8 * at) 0))) }
+// Stores one byte a block, of as many blocks as the report has bytes, of a stream that was judged good; the byte after them.
+fn store_blocks(ac: &[u8], at: usize, tab: Option<&[u32]>, report: &mut [u8]) -> usize
+    requires { (at ≤ start_max) × (length report.old ≤ 1920) × LooksIn tab
+        × (good_ends (block_ends (read_blocks (length report.old) (bit_at ac.now) (8 * at) 0)) ≡ true) }
+    ensures { (accepted result ≡ ac_end (read_blocks (length report.old) (bit_at ac.now) (8 * at) 0))
+        × (report.new ≡ lay report.old 0 (reports_of (read_blocks (length report.old) (bit_at ac.now) (8 * at) 0))) }
 {
     let mut c = bitreader::cursor(ac, 8 * at);
     let mut pending: u64 = 0;
-    let mut least = first;
-    for i in 0..n {
-        report[i] = acread::flat(pending);
+    let mut looks = tab;
+    for byte in report.iter_mut() {
+        *byte = acread::flat(pending);
         if pending < 64 {
-            let Some(end) = acread::skip_block(ac, c, pending, least, tab) else {
+            let Some(end) = acread::skip_block(ac, c, pending, looks) else {
                 return 0;
             };
-            least = least_after(c.pos, end.c.pos, first);
+            looks = table_after(c.pos, end.c.pos, tab);
             c = end.c;
             pending = end.pending;
         } else {
@@ -55,18 +56,17 @@ fn store_blocks(ac: &[u8], at: usize, n: usize, first: u32, tab: &[u32], report:
 const SHORT: usize = 256;
 
 // The same, with a table where it pays.
-fn store_report(ac: &[u8], at: usize, n: usize, report: &mut [u8]) -> usize
-    requires { (at ≤ start_max) × (n ≤ 1920) × (n ≤ length report.old)
-        × (good_ends (block_ends (read_blocks n (bit_at ac.now) (8 * at) 0)) ≡ true) }
-    ensures { (accepted result ≡ ac_end (read_blocks n (bit_at ac.now) (8 * at) 0))
-        × (report.new ≡ lay report.old 0 (reports_of (read_blocks n (bit_at ac.now) (8 * at) 0))) }
+fn store_report(ac: &[u8], at: usize, report: &mut [u8]) -> usize
+    requires { (at ≤ start_max) × (length report.old ≤ 1920)
+        × (good_ends (block_ends (read_blocks (length report.old) (bit_at ac.now) (8 * at) 0)) ≡ true) }
+    ensures { (accepted result ≡ ac_end (read_blocks (length report.old) (bit_at ac.now) (8 * at) 0))
+        × (report.new ≡ lay report.old 0 (reports_of (read_blocks (length report.old) (bit_at ac.now) (8 * at) 0))) }
 {
     if ac.len() < at + SHORT {
-        let none = [0u32; 1];
-        return store_blocks(ac, at, n, NEVER, &none, report);
+        return store_blocks(ac, at, None, report);
     }
     let tab = acpairs::looks();
-    store_blocks(ac, at, n, LOOK, &tab, report)
+    store_blocks(ac, at, Some(&tab), report)
 }
 
 // The questions; the report has room for so many bytes.
@@ -94,5 +94,5 @@ pub fn block_report(
     report_asked(stride, report.len(), Stream::of(ac, at))?;
     let columns = stride / 8;
     ask(acread::through::ac_good(ac, at, columns), Refusal::Code)?;
-    Ok(store_report(ac, at, 2 * columns, report))
+    Ok(store_report(ac, at, &mut report[..2 * columns]))
 }

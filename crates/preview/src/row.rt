@@ -1,4 +1,6 @@
 // The rows of a preview, of a DC stream that was judged good (slice.rs, decode_plane_preview).
+// `shift < 16` and `columns ≤ 960` are said by both contracts, and by no type: a call's shift and stride are any numbers until they were
+// asked (`preview_asked`), and only these two functions stand behind the questions.
 ghost use Rattle.std.specs.Prelude.{◌≡◌, true, ◌*◌, ◌^◌, ◌≤◌, ◌<◌, length};
 ghost use Rattle.ask.specs.Limits.{start_max};
 ghost use Rattle.bits.specs.Bits.{bit_at};
@@ -10,7 +12,7 @@ ghost use Rattle.acread.specs.through.Codes.{good_steps};
 use bitreader::AcCursor;
 
 // What a row of blocks leaves: the cursor after its last code, and its last DC.
-#[derive(Clone, Copy)]
+#[derive(Clone, Copy, Debug, PartialEq, Eq, Hash)]
 pub struct RowEnd {
     pub c: AcCursor,
     pub last: i16,
@@ -26,15 +28,16 @@ fn preview_row(
     columns: usize,
     out: &mut [u8],
 ) -> RowEnd
-    requires { At dc.now c0 × (c0.pos < 2 ^ 58) × (shift < 16) × (columns ≤ 960) × (columns ≤ length out.old) }
+    requires { At dc.now c0 × (c0.pos < 2 ^ 58) × (shift < 16) × (columns ≤ 960) × (columns ≤ length out.old)
+        × (good_steps (read_steps columns (bit_at dc.now) c0.pos) ≡ true) }
     ensures { RowDone dc.now shift level columns c0.pos prior out.old out.new result }
 {
     let mut c = c0;
     let mut last = prior;
-    for k in 0..columns {
-        let g = bitreader::next_dc(dc, c);
+    for byte in out[..columns].iter_mut() {
+        let g = bitreader::next_dc(dc, c).unwrap();
         last = blockread::dc::settled(g.run, g.num, shift, 0, last);
-        out[k] = blockread::dc::preview_byte(last, level);
+        *byte = blockread::dc::preview_byte(last, level);
         c = g.c;
     }
     RowEnd { c, last }

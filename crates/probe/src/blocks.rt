@@ -1,5 +1,7 @@
 // Many blocks a call, so that the oracle can time a block: a row of blocks, transformed one after the other.
 // No contract beyond being safe on any arguments.
+// The blocks of a row go by the index of their column: each takes eight samples of eight rows that lie a stride apart, so chunks of
+// the rows are none, and a window of them is again `&rows[8 * i..]`.
 use crate::arrays::{array, put};
 use crate::corners::fits;
 use ask::limits::{PRESET_MAX, STRIDE_MAX};

@@ -4,7 +4,7 @@
 
 mod arrays;
 pub mod blocks;
-pub mod codes;
+mod codes;
 mod corners;
 pub mod of_bitacc;
 pub mod of_bitreader;

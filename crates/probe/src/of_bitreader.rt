@@ -1,6 +1,6 @@
 // Reading symbols (crate bitreader).
 ghost use Rattle.bitreader.specs.Cursor.{At, Next};
-ghost use Rattle.std.specs.Prelude.{◌^◌, ◌<◌};
+ghost use Rattle.std.specs.Prelude.{IfSome, ◌^◌, ◌<◌};
 
 use bitreader::{AcCursor, Got};
 
@@ -8,9 +8,9 @@ use bitreader::{AcCursor, Got};
 const FARTHEST: usize = 1000000000000;
 
 // The code at a cursor: of the DC stream, or a symbol of the AC stream.
-fn code(s: &[u8], c: AcCursor, dc: bool) -> Got
+fn code(s: &[u8], c: AcCursor, dc: bool) -> Option<Got>
     requires { At s.now c × (c.pos < 2 ^ 60) }
-    ensures { Next s.now c result }
+    ensures { IfSome result (λ g. Next s.now c g) }
 {
     if dc {
         bitreader::next_dc(s, c)
@@ -31,12 +31,13 @@ pub fn probe_bitreader_read(s: &[u8], at: usize, dc: bool, out: &mut [u64]) -> u
         if FARTHEST < cursor.pos {
             break;
         }
-        let got = code(s, cursor, dc);
-        three.copy_from_slice(&[got.run, got.num, got.c.pos as u64]);
         stored += 3;
-        if got.num == 0 {
+        let Some(got) = code(s, cursor, dc) else {
+            let head = bitreader::words::peek(s, cursor.pos) >> 63;
+            three.copy_from_slice(&[head, 0, cursor.pos as u64]);
             break;
-        }
+        };
+        three.copy_from_slice(&[got.run, got.num, got.c.pos as u64]);
         cursor = got.c;
     }
     stored

@@ -1,7 +1,7 @@
-// The lane operations (crate lanes).
+// The lane operations (crate lanes). C names one by a number (`op`), so a match finds it.
 use crate::arrays::{array, put};
 
-// The operations of two rows, numbered as the oracle numbers them.
+// The operations of two rows.
 fn two(op: u32, a: [i16; 8], b: [i16; 8]) -> [i16; 8] {
     match op {
         0 => lanes::sums::adds(a, b),

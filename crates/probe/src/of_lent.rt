@@ -1,13 +1,18 @@
 // The bit writer through a lent accumulator (module lent of crate bitwriter).
-ghost use Rattle.probe_pairs.specs.Kept.{Going, Fits};
-
-use crate::codes::{Writer, write};
+use crate::codes::{Code, Writer, write};
 use bitwriter::{BitAcc, lent};
 
 // Each call is lent the accumulator, and it is handed back.
 pub struct Lent;
 
 impl Writer for Lent {
+    fn code(kind: u8, run: u32, value: u32) -> Code {
+        match kind {
+            0 => Code::Value(value),
+            _ => Code::RunValue(run, value),
+        }
+    }
+
     fn put_value(acc: BitAcc, code: u32, out: &mut [u8]) -> BitAcc {
         let mut acc = acc;
         lent::put_value(&mut acc, code, out);
@@ -20,10 +25,6 @@ impl Writer for Lent {
         acc
     }
 
-    fn put_run(_: BitAcc, _: u32, _: &mut [u8]) -> Option<BitAcc> {
-        None
-    }
-
     fn align(acc: BitAcc, out: &mut [u8]) -> BitAcc {
         let mut acc = acc;
         lent::align(&mut acc, out);
@@ -33,6 +34,7 @@ impl Writer for Lent {
 
 // Codes in a row from the byte `at` on, then zero bits up to a byte: a value for kind 0, a run and a value for any other.
 // The end; a code that the writer does not take, or for which fewer than 16 bytes are left, is passed over.
+// Three lists, since C lends each by a pointer of its own.
 pub fn probe_lent_write(
     kinds: &[u8],
     runs: &[u32],

@@ -1,21 +1,15 @@
 // Parts of lent memory that inner functions hand back, copied out: a stream of a frame (crate parser), a slice's rows (crate shown).
+// `number` is a place that C lends for the answer's number: an export hands back no Result.
 use crate::arrays::put;
-use ask::Refusal;
+use ask::{Refusal, number_given};
 use layout::Kind;
 
-// Copies a part to the buffer's start, where there is room for all of it. Its length, and the number of the answer.
+// Copies a part to the buffer's start, where there is room for all of it. Its length, 0 of none, and the number of the answer.
 fn copied<T: Copy>(answer: Result<&[T], Refusal>, number: &mut u32, out: &mut [T]) -> usize {
-    match answer {
-        Ok(part) => {
-            *number = 0;
-            put(out, part);
-            part.len()
-        }
-        Err(no) => {
-            *number = no.number();
-            0
-        }
-    }
+    *number = number_given(answer.map(|_| ()));
+    let part = answer.unwrap_or(&[]);
+    put(out, part);
+    part.len()
 }
 
 // The DC or the AC stream of a slice, and the number of the answer.

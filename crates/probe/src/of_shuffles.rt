@@ -1,7 +1,7 @@
-// The shuffles (crate shuffles).
+// The shuffles (crate shuffles). C names one by a number (`op`), so a match finds it.
 use crate::arrays::{array, put};
 
-// The shuffles of a row, numbered as the oracle numbers them.
+// The shuffles of a row.
 fn shuffled(op: u32, a: [i16; 8], imm: u8) -> [i16; 8] {
     match op {
         0 => shuffles::shuffle32_16(a, imm),

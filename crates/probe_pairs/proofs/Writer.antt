@@ -1,7 +1,8 @@
 -- What the bit writer asks, where 63 bits fit. Assumes nothing.
 use mathlib.Core.Bool.{Bool}
-use mathlib.Core.List.{List, ◌++◌}
-use Prim.Native.Nat.{ℕ, ◌+◌, ◌-◌, ◌*◌, ◌/◌, ◌^◌, ◌≤◌, ◌<◌}
+use mathlib.Core.List.{List, ◌∷◌, ◌++◌}
+use mathlib.Core.Path.{◌≡◌, ap}
+use Prim.Native.Nat.{ℕ, ◌+◌, ◌^◌, ◌≤◌, ◌<◌}
 use native.Mathlib.Omega.{arith}
 use lib.ListN.{length, length-append}
 use Rattle.bits.specs.Bits.{bits_of, value_code, run_code}
@@ -19,9 +20,9 @@ room_of_lem a n o g h = record { few = g.0.0; low = g.0.1; room = omega (arith, 
 pub grown_of : (a r : BitAcc) {o o' : List ℕ} (bs : List Bool) → length bs ≤ 63 → Put a o bs r o' → Grown a r
 grown_of a r bs h w = omega (arith, wrote_count w, length-append (bits_of a.nbits a.acc) bs, length_bits_of a.nbits a.acc)
 
--- eight bytes a pair are enough: b bits are written after i pairs of n, from the byte at on
-pub pair_fits : (at n i b L : ℕ) → at ≤ L → n ≤ (L - at) / 8 → i < n → b ≤ 8 * at + 63 * i → b + 63 ≤ 8 * L
-pair_fits at n i b L h m l e = omega arith
+-- one pair fewer is left
+pub one_less : {A : Type 0} {x : A} {xs ys : List A} → xs ≡ x ∷ ys → length xs ≡ length ys + 1
+one_less e = omega (arith, ap length e)
 
 pub value_long : (c : ℕ) → 0 < c → c < 2 ^ 32 → length (value_code c) ≤ 63
 value_long c p h = omega (arith, value_length_lem c p (omega (arith, h)), length_le 32 c h)

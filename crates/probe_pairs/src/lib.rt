@@ -14,7 +14,8 @@ pub fn taken(n: u32, c: u32) -> bool
 }
 
 // Pairs from the byte `at` on, then zero bits up to a byte. Room is asked for once, eight bytes a pair. The end, or 0
-// where there is less, or at a pair that the writer does not take.
+// where there is less, or at a pair that the writer does not take. Two lists, since C lends each by a pointer of its own.
+#[tactic(auto, using(crate::proofs::Writer::room_of_lem, crate::proofs::Writer::both_long, crate::proofs::Writer::one_less))]
 pub fn probe_pairs_write(runs: &[u32], codes: &[u32], at: usize, out: &mut [u8]) -> usize {
     if codes.len() < runs.len() || out.len() < at || (out.len() - at) / 8 < runs.len() {
         return 0;
@@ -24,12 +25,11 @@ pub fn probe_pairs_write(runs: &[u32], codes: &[u32], at: usize, out: &mut [u8])
         nbits: 0,
         pos: at,
     };
-    for (i, run) in runs.iter().enumerate() {
-        let code = codes[i];
-        if !taken(*run, code) {
+    for (run, code) in runs.iter().zip(codes) {
+        if !taken(*run, *code) {
             return 0;
         }
-        acc = bitwriter::put_run_value(acc, *run, code, out);
+        acc = bitwriter::put_run_value(acc, *run, *code, out);
     }
     bitwriter::align(acc, out).pos
 }

@@ -12,10 +12,6 @@ use Rattle.tables.proofs.Places.{divisors_at}
 use Rattle.tables.proofs.Scan.{zigzag_unzigzag, unzigzag_zigzag, zigzag_below, unzigzag_below, zigzag_first}
 use Rattle.quant.specs.Quantise.{coefficient, rounded_division, quantise_of, scan_of, natural_of, dequantised, dequantise_with, dequantise_by}
 
-pub quantise_length : (p : ℕ) (l : List ℤ) → length (quantise_of p l) ≡ 64
-unfolding quantise_of
-quantise_length p l = length_tab 64 (λ i. rounded_division (coefficient l i) (divisor p i))
-
 pub quantise_at : (p : ℕ) (l : List ℤ) (i : ℕ) → i < 64 → coefficient (quantise_of p l) i ≡ rounded_division (coefficient l i) (divisor p i)
 unfolding quantise_of
 quantise_at p l i h = get_d_tab 64 (λ i. rounded_division (coefficient l i) (divisor p i)) i (pos 0) h
@@ -32,10 +28,6 @@ scan_at l i h = get_d_tab 64 (λ i. coefficient l (zigzag_at i)) i (pos 0) h
 pub scan_first : (l : List ℤ) → coefficient (scan_of l) 0 ≡ coefficient l 0
 scan_first l = scan_at l 0 (lit< tt) ∙ ap (coefficient l) zigzag_first
 
-pub natural_length : (l : List ℤ) → length (natural_of l) ≡ 64
-unfolding natural_of
-natural_length l = length_tab 64 (λ j. coefficient l (unzigzag_at j))
-
 pub natural_at : (l : List ℤ) (j : ℕ) → j < 64 → coefficient (natural_of l) j ≡ coefficient l (unzigzag_at j)
 unfolding natural_of
 natural_at l j h = get_d_tab 64 (λ j. coefficient l (unzigzag_at j)) j (pos 0) h
@@ -51,14 +43,6 @@ unfolding scan_of
 scan_natural l e =
     tab_ext 64 (λ i h. natural_at l (zigzag_at i) (zigzag_below i h) ∙ ap (coefficient l) (unzigzag_zigzag i h))
     ∙ sym (list_tab 64 l (pos 0) e)
-
-pub dequantise_length : (s p : ℕ) (l : List ℤ) → length (dequantise_by s p l) ≡ 64
-unfolding dequantise_by
-dequantise_length s p l = length_tab 64 (λ i. dequantised s (divisor p i) (coefficient l i))
-
-pub dequantise_at : (s p : ℕ) (l : List ℤ) (i : ℕ) → i < 64 → coefficient (dequantise_by s p l) i ≡ dequantised s (divisor p i) (coefficient l i)
-unfolding dequantise_by
-dequantise_at s p l i h = get_d_tab 64 (λ i. dequantised s (divisor p i) (coefficient l i)) i (pos 0) h
 
 -- the divisors of a preset
 pub dequantise_with_lem : (s p : ℕ) (d : List ℕ) (l : List ℤ) → d ≡ divisors_of p → dequantise_with s d l ≡ dequantise_by s p l

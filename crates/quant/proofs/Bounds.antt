@@ -1,22 +1,19 @@
 -- How large the coefficients of a quantised block are, for any block of numbers of 16 bits.
 use mathlib.Core.Path.{◌≡◌, ap, ◌∙◌}
 use mathlib.Core.List.{List}
-use Prim.Native.Nat.{ℕ, ◌^◌, ◌≤◌, ◌<◌}
-use native.Mathlib.Nat.{le_trans}
-use lib.Dec.{lit<, lit≤}
-use lib.IntN.{ℤ, pos, nat_abs, ◌*ℤ◌}
+use Prim.Native.Nat.{ℕ, ◌≤◌, ◌<◌}
+use lib.Dec.{lit<}
+use lib.IntN.{ℤ, nat_abs}
 use mir.Syntax.{w16}
 use mir.Val.{SFits}
-use Rattle.scalar.specs.Scalar.{mullo_of, sra_of}
-use Rattle.scalar.proofs.Laws.{shr_fits, wrap16_fits}
 use Rattle.tables.specs.Divisor.{divisor}
 use Rattle.tables.specs.Reciprocal.{rounded}
 use Rattle.tables.specs.Zigzag.{zigzag_at}
 use Rattle.tables.proofs.Rounding.{rounded_bound, rounded_last}
 use Rattle.tables.proofs.Scan.{zigzag_below, zigzag_last}
-use Rattle.quant.specs.Quantise.{coefficient, rounded_division, quantise_of, scan_of, dequantised, dequantise_by}
-use Rattle.quant.proofs.one.Signs.{with_sign_abs, magnitude_small, magnitude_fits}
-use Rattle.quant.proofs.Blocks.{quantise_at, scan_at, dequantise_at}
+use Rattle.quant.specs.Quantise.{coefficient, rounded_division, quantise_of, scan_of}
+use Rattle.quant.proofs.one.Signs.{with_sign_abs, magnitude_small}
+use Rattle.quant.proofs.Blocks.{quantise_at, scan_at}
 
 module _ (p : ℕ) (hp : p < 25) (l : List ℤ) (h : (j : ℕ) → j < 64 → SFits w16 (coefficient l j)) where
   magnitude_at : (j : ℕ) → j < 64 → nat_abs (coefficient (quantise_of p l) j) ≡ rounded (nat_abs (coefficient l j)) (divisor p j)
@@ -35,14 +32,3 @@ module _ (p : ℕ) (hp : p < 25) (l : List ℤ) (h : (j : ℕ) → j < 64 → SF
   pub scanned_last : nat_abs (coefficient (scan_of (quantise_of p l)) 63) ≤ 395
   scanned_last =
       rw (scan_at (quantise_of p l) 63 (lit< tt), zigzag_last, magnitude_at 63 (lit< tt)) (rounded_last p hp (nat_abs (coefficient l 63)) (magnitude_small (coefficient l 63) (h 63 (lit< tt))))
-
-  pub quantised_fits : (j : ℕ) → j < 64 → SFits w16 (coefficient (quantise_of p l) j)
-  quantised_fits j k = magnitude_fits (coefficient (quantise_of p l) j) (le_trans (quantised_bound j k) (lit≤ tt))
-
-  pub scanned_fits : (i : ℕ) → i < 64 → SFits w16 (coefficient (scan_of (quantise_of p l)) i)
-  scanned_fits i k = magnitude_fits (coefficient (scan_of (quantise_of p l)) i) (le_trans (scanned_bound i k) (lit≤ tt))
-
--- a dequantised coefficient has 16 bits, whatever was read
-pub dequantised_fits : (s p : ℕ) (l : List ℤ) (i : ℕ) → i < 64 → SFits w16 (coefficient (dequantise_by s p l) i)
-unfolding dequantised sra_of mullo_of
-dequantised_fits s p l i h = rw (dequantise_at s p l i h) (shr_fits (2 ^ s) (wrap16_fits (coefficient l i *ℤ pos (divisor p i))))

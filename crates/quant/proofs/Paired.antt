@@ -59,10 +59,6 @@ module _ (shift : ℕ) (d : List ℕ) (n : List ℤ) where
   abbrev pub row_at : ℕ → List ℤ
   row_at r = dequantised_row shift (numbers_of d (8 * r)) (row_of n r)
 
-  -- the calls of one turn
-  pub row_of_calls : (r : ℕ) {x y : List ℤ} {q : List ℕ} → x ≡ row_of n r → q ≡ numbers_of d (8 * r) → y ≡ dequantised_row shift q x → y ≡ row_at r
-  row_of_calls r ex eq ey = rw (ey, ex, eq) refl
-
   at : (r k : ℕ) → r < 8 → k < 8 → lane (row_at r) k ≡ coefficient (dequantise_with shift d n) (8 * r + paired_place k)
   unfolding dequantised_row dequantise_with numbers_of
   at r k hr hk =

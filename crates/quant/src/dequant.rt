@@ -1,13 +1,16 @@
 // Dequantising, row by row. S makes an instance for each depth, of which each function has one caller: so the compiler makes it part of
 // that depth's loop over blocks.
-ghost use Rattle.std.specs.Prelude.{◌≡◌, ◌<◌};
+// The shift stays a number with the clause `shift < 16`: the contract holds at each such shift, S::DEQUANT_SHIFT in its place would leave
+// two of them, and a type for it would ask the same of the caller where it is made.
+ghost use Rattle.std.specs.Prelude.{◌≡◌, ◌*◌, ◌<◌};
+ghost use Rattle.lanes.specs.rows.Block.{numbers_of, row_of};
 ghost use Rattle.irow.specs.Stages.{pair_up_of};
 ghost use Rattle.quant.specs.Paired.{dequantised_row};
 ghost use Rattle.quant.specs.Quantise.{dequantise_with};
 
 use lanes::load_u;
 use lanes::products::mullo;
-use lanes::rows::{numbers, put, row};
+use lanes::rows::{each_row, numbers, row};
 use lanes::shifts::srai16;
 use sample::Sample;
 use shuffles::{shufflehi, shufflelo};
@@ -30,10 +33,10 @@ pub fn dequant<S: Sample>(n: [i16; 64], d: &[u16; 64], shift: u32) -> [i16; 64]
     requires { shift < 16 }
     ensures { result ≡ pair_up_of (dequantise_with shift d.now n) }
 {
-    let mut w = [0i16; 64];
-    for r in 0..8 {
-        let y = dequant_row::<S>(row(&n, r), numbers(d, r), shift);
-        put(&mut w, r, y);
-    }
-    w
+    each_row(
+        |r| -> [i16; 8]
+            requires { (r < 8) × (shift < 16) }
+            ensures { result ≡ dequantised_row shift (numbers_of d.entry.now (8 * r)) (row_of n r) }
+        { dequant_row::<S>(row(&n, r), numbers(d, r), shift) },
+    )
 }

@@ -15,7 +15,7 @@ pub use crate::quantiser::Quantiser;
 pub use crate::scan::zigzag;
 
 // A row over its divisors, rounded; c, r, s are their corrections, reciprocals and scales. quant1 sets the sign of each lane:
-// by sign16 a block takes longer.
+// by sign16 a block takes longer. A loop by index: Quantiser::quant says why.
 pub fn quant_row(x: [i16; 8], c: [u16; 8], r: [u16; 8], s: [u16; 8]) -> [i16; 8]
     requires { RowFits c r s x }
     ensures { result ≡ multiplied_row c r s x }

@@ -4,6 +4,7 @@ ghost use Rattle.tables.specs.Reciprocal.{high_half, two_high};
 ghost use Rattle.quant.specs.one.Sign.{with_sign};
 
 // The magnitude of x: 32768 for -32768.
+#[tactic(auto, using(crate::proofs::one::Signs::abs_bits))]
 pub fn magnitude(x: i16) -> u16
     ensures { result ≡ nat_abs x }
 {
@@ -18,6 +19,7 @@ pub fn mulhi_u(a: u16, b: u16) -> u16
 }
 
 // A magnitude with the sign of x.
+#[tactic(auto, using(crate::proofs::one::Signs::with_sign_neg, crate::proofs::one::Signs::with_sign_pos, crate::proofs::one::Signs::neg_small))]
 pub fn with_sign(x: i16, m: u16) -> i16
     requires { m < 32768 }
     ensures { result ≡ with_sign x m }

@@ -7,14 +7,14 @@ use ask::Refusal;
 use calls::Positions;
 
 // Of a call that was refused: the first "no", and the positions of both streams as they were given.
-#[derive(Clone, Copy)]
+#[derive(Clone, Copy, Debug, PartialEq, Eq, Hash)]
 pub struct Refused {
     pub no: Refusal,
     pub start: Positions,
 }
 
 // A length for each of the two streams.
-#[derive(Clone, Copy)]
+#[derive(Clone, Copy, Debug, PartialEq, Eq, Hash)]
 pub struct Lengths {
     pub dc: usize,
     pub ac: usize,

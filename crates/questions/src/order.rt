@@ -8,7 +8,7 @@ ghost use Rattle.questions.specs.order.Order.{coding_by, reading_by};
 
 use ask::limits::{AC_COLUMN_BYTES, DC_COLUMN_BYTES};
 use ask::{Refusal, ask};
-use calls::{Settings, Stream};
+use calls::{Settings, Streams};
 
 // Questions 1 to 5, which coding and reading calls share.
 #[tactic(auto, unfolding(ask::specs::Ask::first_no))]
@@ -30,12 +30,12 @@ pub fn coding(
     strides: bool,
     rows: bool,
     columns: usize,
-    dc: Stream,
-    ac: Stream,
+    streams: Streams,
 ) -> Result<(), Refusal>
-    ensures { given result ≡ first_no (coding_by s.preset s.shift which strides rows columns (lengths_by dc ac) (starts_by dc ac)) }
+    ensures { given result ≡ first_no (coding_by s.preset s.shift which strides rows columns (lengths_by streams) (starts_by streams)) }
 {
     first_five(s, which, strides, rows)?;
+    let Streams { dc, ac } = streams;
     let dc_room = ask::room_ok(dc.at, DC_COLUMN_BYTES, columns, dc.len);
     let ac_room = ask::room_ok(ac.at, AC_COLUMN_BYTES, columns, ac.len);
     ask(dc_room && ac_room, Refusal::Room)?;
@@ -49,12 +49,12 @@ pub fn reading(
     which: bool,
     strides: bool,
     rows: bool,
-    dc: Stream,
-    ac: Stream,
+    streams: Streams,
 ) -> Result<(), Refusal>
-    ensures { given result ≡ first_no (reading_by s.preset s.shift which strides rows (lengths_by dc ac) (starts_by dc ac)) }
+    ensures { given result ≡ first_no (reading_by s.preset s.shift which strides rows (lengths_by streams) (starts_by streams)) }
 {
     first_five(s, which, strides, rows)?;
+    let Streams { dc, ac } = streams;
     let starts = ask::start_ok(dc.at) && ask::start_ok(ac.at);
     let lengths = ask::dc_read_ok(dc.len) && ask::ac_read_ok(ac.len);
     ask(starts && lengths, Refusal::Start)

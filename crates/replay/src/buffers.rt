@@ -1,9 +1,9 @@
 // Parts of buffers, and what a buffer holds.
 use std::ops::Range;
 
-// The n elements from `at` on; none where they are not all there.
-pub fn part<T>(s: &[T], at: usize, n: usize) -> &[T] {
-    s.get(at..).and_then(|rest| rest.get(..n)).unwrap_or(&[])
+// The elements in these places; none where they are not all there.
+pub fn part<T>(s: &[T], places: Range<usize>) -> &[T] {
+    s.get(places).unwrap_or(&[])
 }
 
 // The first n elements, to be written; none where there are fewer.

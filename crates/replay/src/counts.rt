@@ -1,7 +1,7 @@
 // How many answers are equal, and how many are not.
 use std::fmt;
 
-#[derive(Clone, Copy, Default)]
+#[derive(Clone, Copy, Debug, Default, PartialEq, Eq)]
 pub struct Counts {
     pub equal: u64,
     pub different: u64,

@@ -1,8 +1,10 @@
 // A record of stored answers.
 ghost use Rattle.std.specs.Prelude.{◌<◌};
 
+use crate::buffers::part;
 use crate::stored::Stored;
 use std::array;
+use std::ops::Range;
 
 // A record's bytes; zeros follow.
 #[derive(Clone, Copy)]
@@ -73,8 +75,8 @@ impl<'a> Record<'a> {
         }
     }
 
-    // The n bytes from `at` on; none where they are not all there.
-    pub fn part(self, at: usize, n: usize) -> &'a [u8] {
-        self.rest(at).get(..n).unwrap_or(&[])
+    // The bytes in these places; none where they are not all there.
+    pub fn part(self, places: Range<usize>) -> &'a [u8] {
+        part(self.bytes, places)
     }
 }

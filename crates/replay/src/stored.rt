@@ -1,4 +1,6 @@
 // Numbers as the records store them: low byte first, signed ones as two's complement.
+// Each type has its own two lines: one function for all would take `from_le_bytes` as a closure of [u8; N], and a bound on a closure
+// that names a const parameter gets no proof.
 ghost use Rattle.std.specs.Prelude.{◌+◌, ◌≤◌, length, IfSome};
 
 use std::default::Default;

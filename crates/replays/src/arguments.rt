@@ -3,6 +3,8 @@ use crate::depths::Depth;
 use calls::{Four, Positions, Settings, Shape};
 use questions::answers::Refused;
 use replay::Record;
+use std::array;
+use std::ops::Range;
 
 #[derive(Clone, Copy)]
 pub struct Call<'a> {
@@ -29,7 +31,7 @@ impl<'a> Call<'a> {
     pub fn four(self) -> Four {
         Four {
             count: self.record.size(8),
-            strides: self.four_sizes(16),
+            strides: self.record.numbers::<u16, 4>(16).map(usize::from),
         }
     }
 
@@ -40,18 +42,12 @@ impl<'a> Call<'a> {
         }
     }
 
-    // Where each plane's samples begin.
-    pub fn starts(self) -> [usize; 4] {
-        self.four_sizes(24)
-    }
-
-    // How many samples each plane has.
-    pub fn counts(self) -> [usize; 4] {
-        self.four_sizes(32)
-    }
-
-    fn four_sizes(self, at: usize) -> [usize; 4] {
-        self.record.numbers::<u16, 4>(at).map(usize::from)
+    // Where each plane's samples lie.
+    pub fn rows(self) -> [Range<usize>; 4] {
+        array::from_fn(|k| {
+            let start = self.record.size(24 + 2 * k);
+            start..start + self.record.size(32 + 2 * k)
+        })
     }
 
     // The positions after the call.
@@ -67,13 +63,12 @@ impl<'a> Call<'a> {
         T::of_byte(self.record.byte(1))
     }
 
-    // Whether this is the stored answer.
+    // Whether this is the stored answer. A refused call leaves both positions as they were.
     pub fn answered(self, answer: Result<Positions, Refused>) -> bool {
-        let stored = self.ends();
-        let (number, at) = match answer {
-            Ok(ends) => (0, ends),
-            Err(Refused { no, start }) => (no.number(), start),
+        let (asked, at) = match answer {
+            Ok(ends) => (Ok(()), ends),
+            Err(Refused { no, start }) => (Err(no.number()), start),
         };
-        number == u32::from(self.record.byte(2)) && at.dc == stored.dc && at.ac == stored.ac
+        asked == self.record.answer(2, ()) && [at.dc, at.ac] == self.record.numbers(56)
     }
 }

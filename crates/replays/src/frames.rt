@@ -11,8 +11,6 @@ use vmx::container::vmx_stream;
 pub const LENGTH: usize = 148;
 // The streams that the table lent for them has room for: two for each slice, and two more.
 const VIEWS: usize = 2 * SLICES_MAX + 2;
-// Two numbers for each.
-const TABLE: usize = 2 * VIEWS;
 
 // A frame, and the stream of it that is asked for.
 #[derive(Clone, Copy)]
@@ -36,7 +34,7 @@ impl<'a> Frame<'a> {
             record,
             width: record.size(0),
             height: record.size(2),
-            bytes: record.part(20, record.small(4)),
+            bytes: record.part(20..20 + record.small(4)),
             ac: record.flag(5),
             slice: record.small(6),
         }
@@ -79,10 +77,11 @@ impl<'a> Frame<'a> {
     // The stream itself, a part of the frame.
     fn stream(self) -> bool {
         let kind = kind_of(self.ac);
-        let View { offset, len } = self.view();
+        let offset = self.record.small(14);
+        let stored = part(self.bytes, offset..offset + self.record.small(15));
         parser::stream(self.width, self.height, self.bytes, kind, self.slice).map_err(
             Refusal::number,
-        ) == self.record.answer(13, part(self.bytes, offset, len))
+        ) == self.record.answer(13, stored)
     }
 
     // The exported call: where the stream lies.
@@ -102,7 +101,7 @@ impl<'a> Frame<'a> {
     }
 
     // The place asked for in the table: 0 and 0 where the frame has no AC. Of a slice that is not there it says nothing.
-    fn in_table(self, table: &[u32; TABLE]) -> bool {
+    fn in_table(self, table: &[[u32; 2]]) -> bool {
         if HEIGHT_MAX < self.height {
             return false;
         }
@@ -115,21 +114,21 @@ impl<'a> Frame<'a> {
         } else {
             self.slice
         };
-        part(table, 2 * view, 2)
-            == [
-                u32::from(self.record.byte(14)),
-                u32::from(self.record.byte(15)),
-            ]
-            .as_slice()
+        table.get(view) == Some(&self.record.numbers::<u8, 2>(14).map(u32::from))
     }
 
     // Header and table, or the refusal.
     fn tabled(self) -> bool {
-        let mut table = [7; TABLE];
-        match views::all_views(self.width, self.height, self.bytes, &mut table) {
-            Err(no) => Err(no.number()) == self.stored_header() && table[0] == 7,
-            Ok(header) => Ok(header) == self.stored_header() && self.in_table(&table),
-        }
+        let mut table = [[7; 2]; VIEWS];
+        let lent = table.as_flattened_mut();
+        let header = views::all_views(self.width, self.height, self.bytes, lent).map_err(
+            Refusal::number,
+        );
+        let told = match header {
+            Ok(_) => self.in_table(&table),
+            Err(_) => table[0] == [7; 2],
+        };
+        header == self.stored_header() && told
     }
 }
 

@@ -27,11 +27,7 @@ fn sizes(record: Record<'_>) -> bool {
 // The image row in a row of the coded planes, or none.
 fn image_row(record: Record<'_>) -> bool {
     let height = record.position(16);
-    let stored = if record.flag(3) {
-        Some(record.position(32))
-    } else {
-        None
-    };
+    let stored = record.flag(3).then_some(record.position(32));
     height <= HEIGHT_MAX && layout::image_row(height, record.position(24), record.flag(2)) == stored
 }
 

@@ -1,7 +1,7 @@
 // The questions to calls on planes and slices over numbers alone, and the size calls: no memory is lent, so lengths and starts
 // are any. A record of 144 bytes (oracle/ANSWERS.md): the call, its number, its arguments, the lengths that a size call names.
 use ask::Refusal;
-use calls::{Four, Settings, Shape, Stream};
+use calls::{Four, Settings, Shape, Stream, Streams};
 use questions::answers::Lengths;
 use questions::{of_call, sizes};
 use replay::Record;
@@ -40,13 +40,15 @@ fn stream(record: Record<'_>, at: usize) -> Stream {
 fn asked(record: Record<'_>) -> Result<(), Refusal> {
     let settings = settings(record);
     let rows: [usize; 4] = record.numbers(64);
-    let dc = stream(record, 96);
-    let ac = stream(record, 112);
+    let streams = Streams {
+        dc: stream(record, 96),
+        ac: stream(record, 112),
+    };
     match record.byte(0) {
-        0 => of_call::coding_plane(settings, shape(record), rows[0], dc, ac),
-        1 => of_call::reading_plane(settings, shape(record), rows[0], dc, ac),
-        2 => of_call::coding_slice(settings, four(record), rows, dc, ac),
-        _ => of_call::reading_slice(settings, four(record), rows, dc, ac),
+        0 => of_call::coding_plane(settings, shape(record), rows[0], streams),
+        1 => of_call::reading_plane(settings, shape(record), rows[0], streams),
+        2 => of_call::coding_slice(settings, four(record), rows, streams),
+        _ => of_call::reading_slice(settings, four(record), rows, streams),
     }
 }
 

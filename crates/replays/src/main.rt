@@ -1,5 +1,6 @@
 // Replays the Rust's answers. data/ has a file for each part, of records of one length (oracle/ANSWERS.md); each record's answer
-// is computed anew and compared, and the counts of each part are written.
+// is computed anew and compared, and the counts of each part are written. The files name kinds and refusals by numbers, so each part
+// begins with a match on one.
 #![tactic(auto)]
 
 ghost use Rattle.std.specs.Prelude.{◌<◌};

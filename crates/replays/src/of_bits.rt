@@ -8,23 +8,25 @@ use std::array;
 
 pub const LENGTH: usize = 48;
 
-// The code at a bit of the record's stream: head bit, number and the bit after it. A bad code has none of them, a zero step no
-// number.
+// The code that the Rust read: head bit, number and the bit after it. A bad code has none of them.
+fn stored_code(record: Record<'_>) -> Option<[u64; 3]> {
+    let head = u64::from(record.number::<u16>(4));
+    let number = record.number(8);
+    let end = u64::from(record.number::<u16>(16));
+    (number != 0).then_some([head, number, end])
+}
+
+// The code at a bit of the record's stream. A zero step has no number; 1 is stored for it.
 fn read(record: Record<'_>, dc: bool) -> bool {
-    let stream = record.part(20, record.small(1));
-    let mut code = [0; 3];
-    if probe_bitreader_read(stream, record.size(2), dc, &mut code) != 3 {
-        return false;
-    }
-    let [head, number, end] = code;
-    let stored: u64 = record.number(8);
-    if number == 0 {
-        return stored == 0;
-    }
-    let expected = if dc && head == 1 { 1 } else { number };
-    u64::from(record.number::<u16>(4)) == head
-        && u64::from(record.number::<u16>(16)) == end
-        && stored == expected
+    let stream = record.part(20..20 + record.small(1));
+    let mut read = [0; 3];
+    let stored = probe_bitreader_read(stream, record.size(2), dc, &mut read);
+    let code = match read {
+        [_, 0, _] => None,
+        [1, _, end] if dc => Some([1, 1, end]),
+        code => Some(code),
+    };
+    stored == 3 && code == stored_code(record)
 }
 
 // Codes that are written in a row.
@@ -38,8 +40,8 @@ impl Codes {
     // The record's two codes, nine bytes each, in turn.
     fn of(record: Record<'_>) -> Codes {
         let two = [
-            Record::new(record.part(4, 9)),
-            Record::new(record.part(13, 9)),
+            Record::new(record.part(4..13)),
+            Record::new(record.part(13..22)),
         ];
         Codes {
             kinds: array::from_fn(|k| two[k % 2].byte(0)),
@@ -60,8 +62,8 @@ fn written<W: Fn(&[u8], &[u32], &[u32], usize, &mut [u8]) -> usize>(
     let filled = record.byte(3);
     let length = record.small(1);
     let mut out = [filled; 64];
-    let end = write(part(&kinds, 0, record.small(2)), &runs, &codes, 3, &mut out);
-    end == 3 + length && replay::holds(&out, filled, 3..end, record.part(22, length))
+    let end = write(part(&kinds, 0..record.small(2)), &runs, &codes, 3, &mut out);
+    end == 3 + length && replay::holds(&out, filled, 3..end, record.part(22..22 + length))
 }
 
 pub fn holds(record: Record<'_>) -> bool {

@@ -1,5 +1,6 @@
 // The Rust's transforms of a block, its flat block and its mask of non-zero places. A record of 260 bytes (oracle/ANSWERS.md):
 // which of them, the preset, the level shift, 64 numbers, and the 64 numbers that the Rust answered.
+use crate::depths::Depth;
 use probe::of_dct;
 use probe::of_shuffles::probe_shuffles_nonzero_mask;
 use replay::Record;
@@ -24,18 +25,11 @@ fn forward(record: Record<'_>, ten: bool) -> bool {
     r == record.numbers(132)
 }
 
-// Dequantising and inverse transform of a block into 8-bit samples.
-fn inverse8(record: Record<'_>) -> bool {
-    let mut r = [0; 64];
-    of_dct::probe_dct_inverse::<u8>(&block(record), record.small(1), record.number(2), &mut r, 8);
-    r.map(u16::from) == record.numbers(132)
-}
-
-// Into 10-bit samples, at the top of 16.
-fn inverse16(record: Record<'_>) -> bool {
-    let mut r = [0; 64];
-    of_dct::probe_dct_inverse::<u16>(&block(record), record.small(1), record.number(2), &mut r, 8);
-    r == record.numbers(132)
+// Dequantising and inverse transform of a block into these samples; those of 10 bits stand at the top of 16.
+fn inverse<T: Depth + Into<u16>>(record: Record<'_>, r: &mut [T]) -> bool {
+    of_dct::probe_dct_inverse(&block(record), record.small(1), record.number(2), r, 8);
+    let stored: [u16; 64] = record.numbers(132);
+    r.iter().copied().map(T::into).eq(stored)
 }
 
 // A block filled flat with its DC.
@@ -54,8 +48,8 @@ pub fn holds(record: Record<'_>) -> bool {
     match record.byte(0) {
         0 => forward(record, false),
         1 => forward(record, true),
-        2 => inverse8(record),
-        3 => inverse16(record),
+        2 => inverse::<u8>(record, &mut [0; 64]),
+        3 => inverse::<u16>(record, &mut [0; 64]),
         4 => flat(record),
         _ => mask(record),
     }

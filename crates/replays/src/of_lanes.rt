@@ -1,15 +1,19 @@
 // The lane operations and the shuffles, as the Rust answered them. A record of 50 bytes (oracle/ANSWERS.md): the operation, a
 // shift or a shuffle's pattern, two rows, and the row that the Rust answered.
 use probe::{of_lanes, of_shuffles};
-use replay::Record;
+use replay::{Record, Stored};
 use std::array;
 
 pub const LENGTH: usize = 50;
 
+// Both rows.
+fn rows<T: Stored, const N: usize>(record: Record<'_>) -> [[T; N]; 2] {
+    [record.numbers(2), record.numbers(18)]
+}
+
 // Of the operations whose answer is a row of eight lanes.
 fn eight(record: Record<'_>, operation: u8) -> [i16; 8] {
-    let a: [i16; 8] = record.numbers(2);
-    let b: [i16; 8] = record.numbers(18);
+    let [a, b]: [[i16; 8]; 2] = rows(record);
     let n = record.byte(1);
     let mut r = [0; 8];
     match operation {
@@ -18,8 +22,8 @@ fn eight(record: Record<'_>, operation: u8) -> [i16; 8] {
         13..=15 => of_shuffles::probe_shuffles_row(u32::from(operation - 13), &a, n, &mut r),
         16 => of_shuffles::probe_shuffles_unpacklo32(&a, &b, &mut r),
         31 => {
-            let wide: [i32; 8] = record.numbers(2);
-            of_lanes::probe_lanes_packs32(&wide[..4], &wide[4..], &mut r)
+            let [a, b]: [[i32; 4]; 2] = rows(record);
+            of_lanes::probe_lanes_packs32(&a, &b, &mut r)
         }
         40 => of_lanes::probe_lanes_splat(a[0], &mut r),
         _ => of_lanes::probe_lanes_load_u(&record.numbers::<u16, 8>(2), &mut r),
@@ -29,16 +33,15 @@ fn eight(record: Record<'_>, operation: u8) -> [i16; 8] {
 
 // Of those whose answer is a row of four wide lanes.
 fn four(record: Record<'_>, operation: u8) -> [i32; 4] {
-    let a: [i32; 4] = record.numbers(2);
-    let b: [i32; 4] = record.numbers(18);
+    let [a, b]: [[i32; 4]; 2] = rows(record);
     let n = record.byte(1);
     let mut r = [0; 4];
     match operation {
         20..=22 => of_lanes::probe_lanes_two32(u32::from(operation - 20), &a, &b, n, &mut r),
         23 => of_shuffles::probe_shuffles_wide(&a, n, &mut r),
         30 => {
-            let narrow: [i16; 16] = record.numbers(2);
-            of_lanes::probe_lanes_madd(&narrow[..8], &narrow[8..], &mut r)
+            let [a, b]: [[i16; 8]; 2] = rows(record);
+            of_lanes::probe_lanes_madd(&a, &b, &mut r)
         }
         _ => of_lanes::probe_lanes_splat32(a[0], &mut r),
     }

@@ -78,26 +78,12 @@ impl<'a> Asked<'a> {
 
     // The rows themselves, as a part of one of the two pictures.
     fn rows<T: Depth>(self, new: &[T], held: &[T], stored: &[T]) -> bool {
-        let new = part(new, 0, self.new);
-        let held = part(held, 0, self.held);
-        let stored = part(stored, 0, self.record.position(48));
+        let new = part(new, 0..self.new);
+        let held = part(held, 0..self.held);
+        let stored = part(stored, 0..self.record.position(48));
         shown::shown_rows(new, held, self.stride, self.slice, self.verdict).map_err(Refusal::number)
             == self.record.answer(1, stored)
     }
-}
-
-// The rows of pictures of 8-bit samples.
-fn rows8(record: Record<'_>) -> bool {
-    let new = picture::<u8>(record.number(4));
-    let held = picture::<u8>(record.number(6));
-    Asked::of(record).rows(&new, &held, record.part(64, 256))
-}
-
-// The same of 10-bit samples.
-fn rows10(record: Record<'_>) -> bool {
-    let new = picture::<u16>(record.number(4));
-    let held = picture::<u16>(record.number(6));
-    Asked::of(record).rows(&new, &held, &record.numbers::<u16, 128>(64))
 }
 
 // The time, by the exported call and the inner one.
@@ -110,10 +96,18 @@ fn time(record: Record<'_>) -> bool {
 }
 
 pub fn holds(record: Record<'_>) -> bool {
+    let asked = Asked::of(record);
+    let [new, held]: [u16; 2] = record.numbers(4);
     match record.byte(0) {
-        0 => Asked::of(record).by_lengths(),
-        1 => Asked::of(record).by_lengths() && rows8(record),
-        2 => Asked::of(record).by_lengths() && rows10(record),
+        0 => asked.by_lengths(),
+        1 => {
+            let stored = record.part(64..320);
+            asked.by_lengths() && asked.rows::<u8>(&picture(new), &picture(held), stored)
+        }
+        2 => {
+            let stored: [u16; 128] = record.numbers(64);
+            asked.by_lengths() && asked.rows(&picture(new), &picture(held), &stored)
+        }
         _ => time(record),
     }
 }

@@ -35,15 +35,26 @@ impl Reading<'_> {
         self.call.record.numbers(296)
     }
 
-    // Whether a plane's rows hold what is stored from a sample on, and what they were filled with after it.
-    fn hold<T: Depth>(self, rows: &[T], stored: &[T], start: usize, n: usize) -> bool {
-        replay::holds(rows, self.call.filled(), 0..n, part(stored, start, n))
+    // How many samples the rows of each plane have.
+    fn counts(self) -> [usize; 4] {
+        self.call.rows().map(|place| place.len())
+    }
+
+    // Whether planes hold what is stored of each, and what they were filled with after it.
+    fn hold<T: Depth>(self, planes: &[&[T]], stored: &[T]) -> bool {
+        planes.iter().zip(self.call.rows()).all(|(rows, place)| {
+            replay::holds(
+                rows,
+                self.call.filled(),
+                0..place.len(),
+                part(stored, place),
+            )
+        })
     }
 
     fn plane<T: Depth>(self, rows: &mut [T], stored: &[T]) -> bool {
         let call = self.call;
-        let [start, ..] = call.starts();
-        let [n, ..] = call.counts();
+        let [n, ..] = self.counts();
         let answer = decoder::decode_plane(
             cut(rows, n),
             call.shape(),
@@ -52,7 +63,7 @@ impl Reading<'_> {
             self.ac,
             call.positions(),
         );
-        call.answered(answer) && self.hold(rows, stored, start, n)
+        call.answered(answer) && self.hold(&[&*rows], stored)
     }
 
     fn slice<T: Depth>(
@@ -64,8 +75,7 @@ impl Reading<'_> {
         stored: &[T],
     ) -> bool {
         let call = self.call;
-        let [start0, start1, start2, start3] = call.starts();
-        let [n0, n1, n2, n3] = call.counts();
+        let [n0, n1, n2, n3] = self.counts();
         let answer = decoder::decode_slice(
             cut(p0, n0),
             cut(p1, n1),
@@ -77,21 +87,15 @@ impl Reading<'_> {
             self.ac,
             call.positions(),
         );
-        call.answered(answer)
-            && self.hold(p0, stored, start0, n0)
-            && self.hold(p1, stored, start1, n1)
-            && self.hold(p2, stored, start2, n2)
-            && self.hold(p3, stored, start3, n3)
+        call.answered(answer) && self.hold(&[&*p0, &*p1, &*p2, &*p3], stored)
     }
 
     // A preview, into the rows of two planes.
     fn preview(self) -> bool {
         let call = self.call;
-        let stored = self.stored::<u8>();
-        let [start0, start1, ..] = call.starts();
-        let [n0, n1, ..] = call.counts();
-        let mut upper = self.room();
-        let mut lower = self.room();
+        let mut upper: [u8; ROOM] = self.room();
+        let mut lower: [u8; ROOM] = self.room();
+        let [n0, n1, ..] = self.counts();
         let start = call.positions();
         let answer = preview::preview(
             call.settings().shift,
@@ -104,25 +108,21 @@ impl Reading<'_> {
         let ends = answer
             .map(|dc| Positions { dc, ac: start.ac })
             .map_err(|no| Refused { no, start });
-        call.answered(ends)
-            && self.hold(&upper, &stored, start0, n0)
-            && self.hold(&lower, &stored, start1, n1)
+        call.answered(ends) && self.hold(&[upper.as_slice(), lower.as_slice()], &self.stored())
     }
 
     // A block report, into one plane's rows.
     fn report(self) -> bool {
         let call = self.call;
-        let stored = self.stored::<u8>();
-        let [start0, ..] = call.starts();
-        let [n0, ..] = call.counts();
-        let mut rows = self.room();
+        let mut rows: [u8; ROOM] = self.room();
+        let [n, ..] = self.counts();
         let start = call.positions();
         let stride = call.shape().stride;
-        let answer = preview::report::block_report(stride, cut(&mut rows, n0), self.ac, start.ac);
+        let answer = preview::report::block_report(stride, cut(&mut rows, n), self.ac, start.ac);
         let ends = answer
             .map(|ac| Positions { dc: start.dc, ac })
             .map_err(|no| Refused { no, start });
-        call.answered(ends) && self.hold(&rows, &stored, start0, n0)
+        call.answered(ends) && self.hold(&[rows.as_slice()], &self.stored())
     }
 
     // The call that the record names.
@@ -153,8 +153,8 @@ impl Reading<'_> {
 // On streams of ones, as long as may be read, or with a byte more.
 fn holds_on_ones(call: Call<'_>, longer_dc: bool, longer_ac: bool) -> bool {
     let ones = [255; ONES];
-    let dc = part(&ones, 0, LONGEST_DC + usize::from(longer_dc));
-    let ac = part(&ones, 0, LONGEST_AC + usize::from(longer_ac));
+    let dc = part(&ones, 0..LONGEST_DC + usize::from(longer_dc));
+    let ac = part(&ones, 0..LONGEST_AC + usize::from(longer_ac));
     Reading { call, dc, ac }.holds()
 }
 
@@ -162,8 +162,8 @@ pub fn holds(record: Record<'_>) -> bool {
     let call = Call { record };
     match record.byte(3) {
         0 => {
-            let dc = record.part(72, record.size(10));
-            let ac = record.part(96, record.size(12));
+            let dc = record.part(72..72 + record.size(10));
+            let ac = record.part(96..96 + record.size(12));
             Reading { call, dc, ac }.holds()
         }
         ones => holds_on_ones(call, ones == 2, ones == 3),

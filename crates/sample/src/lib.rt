@@ -9,7 +9,7 @@ ghost use Rattle.sample.specs.Depth.{Depth, eight, ten, is_ten};
 ghost use Rattle.sample.specs.Numbers.{lane_of, sample_of};
 ghost use Rattle.sample.specs.Laws.{DepthNumbers, eight_numbers, ten_numbers, same_list};
 
-pub trait Sample: Copy {
+pub trait Sample: Copy + Default {
     ghost depth: { Depth };
 
     // A sample as a number, and a list of samples as the definitions see it.
@@ -112,7 +112,7 @@ impl Sample for u8 {
     const FILLS_FLAT: bool = true;
 
     fn lane(self) -> i16 {
-        self as i16
+        i16::from(self)
     }
 
     // What is below 0 is made 0 first: so the compiler clamps sixteen samples by one instruction.
@@ -172,9 +172,9 @@ impl Sample for u16 {
         (self >> 6) as i16
     }
 
+    #[tactic(auto, using(crate::proofs::Clamps::clamped_ten))]
     fn from_number(z: i16) -> u16 {
-        let y = scalar::max1(scalar::min1(z, 1023), 0);
-        (y as u16) * 64
+        z.clamp(0, 1023) as u16 * 64
     }
 
     ghost numbers = { ten_numbers };

@@ -1,16 +1,24 @@
 -- A lane's result, and its operands, each read back from its bits: as a loop over lanes finds them.
 -- The operands' width is w, the result's v. Laws of the modules of scalar that others cite are passed on.
 use mathlib.Core.Path.{◌≡◌, refl, ap, ◌∙◌}
-use lib.IntN.{ℤ}
+use lib.IntN.{ℤ, pos, neg_ℤ, ◌-ℤ◌, +ℤ_idl}
+use native.Mathlib.Nat.{mul-le-mul}
+use native.Mathlib.Omega.{arith}
+use Prim.Native.Nat.{ℕ, ◌*◌, ◌<◌, ◌≤◌}
 use mir.Syntax.{Width}
 use mir.Val.{SFits, to_z, of_z}
 use mir.Facts.{to_z-of_z}
-pub use Rattle.scalar.proofs.cuts.Widths.{wide16, back16}
-pub use Rattle.scalar.proofs.cuts.Shifts.{shr_fits, wrap16_fits}
+pub use Rattle.scalar.proofs.cuts.Widths.{wide16, back16, shr_fits, wrap16_fits, from_bits}
 pub use Rattle.scalar.proofs.cuts.Nearest.{sat_fits}
-pub use Rattle.scalar.proofs.cuts.Patterns.{from_bits}
-pub use Rattle.scalar.proofs.products.Laws.{bits_prod}
-pub use Rattle.scalar.proofs.signs.Laws.{neg_is}
+
+pub neg_is : (z : ℤ) → pos 0 -ℤ z ≡ neg_ℤ z
+neg_is z = +ℤ_idl (neg_ℤ z)
+
+pub bits_prod : (a b : ℕ) → a < 65536 → b < 65536 → a * b ≤ 4294836225
+bits_prod a b p q =
+    let h : a ≤ 65535 = omega arith in
+    let k : b ≤ 65535 = omega arith in
+    mul-le-mul h k
 
 -- the bits of a number, read back
 abbrev pub back : Width → ℤ → ℤ
@@ -30,9 +38,3 @@ pub lane4 : {v w : Width} (f : ℤ → ℤ → ℤ → ℤ → ℤ) {a b c d r :
 lane4 {w} f {a} {b} {c} {d} p q s t g e =
     to_z-of_z g ∙ e ∙ ap (λ (z : ℤ). f z (back w b) (back w c) (back w d)) (to_z-of_z p) ∙ ap (λ (z : ℤ). f a z (back w c) (back w d)) (to_z-of_z q)
     ∙ ap (λ (z : ℤ). f a b z (back w d)) (to_z-of_z s) ∙ ap (f a b c) (to_z-of_z t)
-
-pub lane8 : {v w : Width} (f : ℤ → ℤ → ℤ → ℤ → ℤ → ℤ → ℤ → ℤ → ℤ) {a b c d e₀ f₀ g₀ h₀ r : ℤ}
-    → SFits w a → SFits w b → SFits w c → SFits w d → SFits w e₀ → SFits w f₀ → SFits w g₀ → SFits w h₀ → SFits v r
-    → r ≡ f (back w a) (back w b) (back w c) (back w d) (back w e₀) (back w f₀) (back w g₀) (back w h₀) → back v r ≡ f a b c d e₀ f₀ g₀ h₀
-lane8 {w} f {a} {b} {c} {d} {e₀} {f₀} {g₀} {h₀} k0 k1 k2 k3 k4 k5 k6 k7 g e =
-    to_z-of_z g ∙ e ∙ rw (to_z-of_z k0, to_z-of_z k1, to_z-of_z k2, to_z-of_z k3, to_z-of_z k4, to_z-of_z k5, to_z-of_z k6, to_z-of_z k7) refl

@@ -1,4 +1,2 @@
-pub mod Widths
-pub mod Shifts
 pub mod Nearest
-pub mod Patterns
+pub mod Widths

@@ -3,19 +3,14 @@ ghost use Rattle.std.specs.Prelude.{◌≡◌};
 ghost use Rattle.std.specs.Int.Signed.{shr_z};
 ghost use Rattle.std.specs.Int.{w16};
 ghost use Rattle.std.proofs.Common.{of_z, to_z};
-ghost use Rattle.scalar.specs.cuts.Cuts.{sat16, wrap16, wrap32, packus_of};
+ghost use Rattle.scalar.specs.cuts.Cuts.{sat16, wrap16, packus_of};
 
 // The number of 16 bits nearest to s.
+#[tactic(auto, using(crate::proofs::Methods::sat_is))]
 pub fn sat(s: i32) -> i16
     ensures { result ≡ sat16 s }
 {
-    if s < -32768 {
-        -32768
-    } else if 32767 < s {
-        32767
-    } else {
-        s as i16
-    }
+    s.clamp(-32768, 32767) as i16
 }
 
 // The high half of s.
@@ -26,42 +21,31 @@ pub fn high(s: i32) -> i16
 }
 
 // The low half of s, read as signed.
+#[tactic(auto, using(crate::proofs::Methods::low_is))]
 pub fn low(s: i32) -> i16
     ensures { result ≡ wrap16 s }
 {
-    ((s << 16) >> 16) as i16
-}
-
-// The low 32 bits of s, read as signed.
-pub fn low32(s: i64) -> i32
-    ensures { result ≡ wrap32 s }
-{
-    ((s << 32) >> 32) as i32
+    ((s.cast_unsigned() % 65536) as u16).cast_signed()
 }
 
 // The 16 bits of x as an unsigned number.
 pub fn bits16(x: i16) -> u32
     ensures { result ≡ of_z w16 x }
 {
-    ((x as i32) & 0xffff) as u32
+    u32::from(x.cast_unsigned())
 }
 
 // The 16 bits of x, read as signed.
 pub fn signed16(x: u16) -> i16
     ensures { result ≡ to_z w16 x }
 {
-    low(x as i32)
+    x.cast_signed()
 }
 
 // The number of 8 bits nearest to x.
+#[tactic(auto, using(crate::proofs::Methods::packus_is))]
 pub fn packus1(x: i16) -> u8
     ensures { result ≡ packus_of x }
 {
-    if x < 0 {
-        0
-    } else if 255 < x {
-        255
-    } else {
-        x as u8
-    }
+    x.clamp(0, 255) as u8
 }

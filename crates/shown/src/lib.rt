@@ -1,7 +1,8 @@
 // Shown rows: of two lent pictures, the new one and the held one, what a viewer sees of a slice.
 //
-// The verdict of a slice is the number that its reading call gave. A slice that was accepted (0) is shown out of the new
-// picture, any other out of the held one: old and new blocks never stand side by side under one time.
+// The verdict of a slice is the number that its reading call gave, and not a `Refusal`: C hands it over, and any number but 0
+// is a refused slice. A slice that was accepted (0) is shown out of the new picture, any other out of the held one: old and
+// new blocks never stand side by side under one time.
 #![tactic(auto)]
 
 ghost use Rattle.std.specs.Prelude.{◌≡◌, leb};
@@ -13,6 +14,7 @@ use ask::limits::{ROWS, SLICES_MAX};
 use ask::{Refusal, ask};
 
 // Whether a picture of n samples reaches the end of the slice. Compared by division: no product overflows.
+#[tactic(auto, using(crate::proofs::Laws::reach, crate::proofs::Laws::reach_none))]
 fn reaches(n: usize, stride: usize, slice: usize) -> bool
     ensures { result ≡ leb (up_to_end stride slice) n }
 {
@@ -43,6 +45,7 @@ fn picked<T: Copy>(new: T, held: T, verdict: u32) -> T
 }
 
 // The slice's sixteen rows, out of the new picture if it was accepted, out of the held one if not.
+#[tactic(auto, using(crate::proofs::Laws::shows, crate::proofs::Laws::in_picture, crate::proofs::Laws::shown, ask::proofs::Asked::asked_no), unfolding(crate::specs::Shown::shown_of))]
 pub fn shown_rows<'a, T>(
     new: &'a [T],
     held: &'a [T],

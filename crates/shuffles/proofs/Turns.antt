@@ -1,20 +1,11 @@
--- The turn of the loop that gathers lanes, once for every shuffle.
-use mathlib.Core.Path.{◌≡◌, refl, ◌∙◌, ap}
-use mathlib.Core.List.{List, [], ◌∷◌}
-use Prim.Native.Nat.{ℕ, ◌+◌, ◌<◌}
+-- Lanes, each read back from its bits.
+use mathlib.Core.Path.{◌≡◌, refl}
+use mathlib.Core.List.{[], ◌∷◌}
 use lib.IntN.{ℤ}
-use lib.ListN.{set}
 use mir.Syntax.{Width}
 use mir.Val.{SFits}
 use mir.Facts.{to_z-of_z}
-use Rattle.scalar.specs.Tab.{lane}
-use Rattle.scalar.proofs.Fill.{Filled, filled_next}
 use Rattle.scalar.proofs.Laws.{back}
-
--- lane p of a, with p the place for k, goes to place k
-pub gather : {w : Width} (n : ℕ) (place : ℕ → ℕ) (a r : List ℤ) (k : ℕ) {p : ℕ} → k < n → Filled n (λ i. lane a (place i)) r k → SFits w (lane a p) → p ≡ place k
-    → Filled n (λ i. lane a (place i)) (set r k (back w (lane a p))) (k + 1)
-gather n place a r k h i g e = filled_next n (λ j. lane a (place j)) r k h i (to_z-of_z g ∙ ap (lane a) e)
 
 -- eight lanes, each read back from its bits
 pub eight_back : {w : Width} {a b c d e f g h : ℤ} → SFits w a → SFits w b → SFits w c → SFits w d → SFits w e → SFits w f → SFits w g → SFits w h

@@ -3,6 +3,7 @@ ghost use Rattle.std.specs.Prelude.{◌≡◌, ◌+◌, ◌*◌, ◌%◌, ◌≤
 ghost use Rattle.shuffles.specs.mask.Mask.{flag, nonzero_mask, weighed, Light, eight_from, half_from};
 
 // w where x is not 0, else 0.
+#[tactic(auto, using(crate::proofs::mask::Weights::weigh_zero, crate::proofs::mask::Weights::weigh_other))]
 fn weigh(x: i16, w: u8) -> u8
     ensures { result ≡ flag x * w }
 {
@@ -13,11 +14,7 @@ fn weigh(x: i16, w: u8) -> u8
 fn weigh_all(zz: [i16; 64]) -> [u8; 64]
     ensures { result ≡ weighed zz }
 {
-    let mut f = [0u8; 64];
-    for i in 0..64 {
-        f[i] = weigh(zz[i], 1 << (i % 8));
-    }
-    f
+    lanes::maps::each(|i| weigh(zz[i], 1 << (i % 8)))
 }
 
 // The sum of eight of them. In this form, with bytes, the compiler makes a psadbw of it.

@@ -1,19 +1,19 @@
 -- What is read of a plane is near what was quantised, block by block; and of planes one after the other.
-use mathlib.Core.Path.{◌≡◌, refl, sym, ap, ap₂, ◌∙◌, subst}
+use mathlib.Core.Path.{◌≡◌, refl, sym, ap, ◌∙◌, subst}
 use mathlib.Core.List.{List, [], ◌∷◌, ◌++◌, map, append_assoc}
-use Prim.Native.Nat.{ℕ, zero, suc, ◌+◌, ◌*◌, ◌^◌, ◌/◌, ◌≤◌, ◌<◌}
+use Prim.Native.Nat.{ℕ, suc, ◌+◌, ◌^◌, ◌/◌, ◌≤◌, ◌<◌}
 use native.Mathlib.Nat.{add-zero, add_assoc}
 use native.Mathlib.Omega.{arith}
-use lib.IntN.{ℤ, pos, nat_abs, ◌-ℤ◌}
+use lib.IntN.{ℤ, nat_abs, ◌-ℤ◌}
 use lib.ListN.{length, drop, length-append}
 use Rattle.calls.specs.Arguments.{Settings, Plane, PerStream, Buffers, lengths_of}
-use Rattle.calls.specs.Streams.{dc_of, with_dc, dc_stream, ac_stream}
+use Rattle.calls.specs.Streams.{dc_of, dc_stream, ac_stream}
 use Rattle.calls.specs.ReadPlane.{BlockRead, PlaneRead, read_plane}
 use Rattle.calls.specs.Grid.{blocks_of}
 use Rattle.slice.specs.Plane.{coefficients}
 use Rattle.calls.specs.Questions.{together}
-use Rattle.slice.specs.Calls.{own_streams, PlanesRead, planes_read, plane_then, by_plane, read_planes}
-use Rattle.slice.specs.CallLists.{Shape, shape}
+use Rattle.slice.specs.Calls.{own_streams, planes_read, plane_then, by_plane, read_planes}
+use Rattle.slice.specs.CallLists.{shape}
 use Rattle.slice.specs.Demand3.{BlockBack, PlaneBack, PlanesBack}
 use Rattle.calls.proofs.DcNear.{dc_near, no_difference}
 use Rattle.calls.proofs.PlaneBack.{coeffs_of, dc_read, block_read, PlaneIs, plane_back}

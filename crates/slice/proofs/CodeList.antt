@@ -1,21 +1,17 @@
 -- A list of coding calls does what the book says.
-use mathlib.Core.Path.{◌≡◌, refl, sym, ap, ap₂, ◌∙◌, subst}
-use mathlib.Core.Bool.{Bool, true, false}
-use mathlib.Core.List.{List, [], ◌∷◌, ◌++◌, append_assoc, append-nil}
-use Prim.Native.Nat.{ℕ, zero, suc, ◌+◌, ◌*◌, ◌-◌, ◌≤◌, ◌<◌}
-use native.Mathlib.Nat.{add-zero, zero-add, add_assoc}
+use mathlib.Core.Path.{◌≡◌, refl, sym, ap, ◌∙◌, subst}
+use mathlib.Core.List.{List, [], ◌∷◌, ◌++◌}
+use Prim.Native.Nat.{ℕ, zero, suc, ◌+◌, ◌≤◌}
+use native.Mathlib.Nat.{add-zero, add_assoc}
 use native.Mathlib.Omega.{arith}
-use lib.ListN.{length, take, drop, length-append, length-take, length-drop, take-append-drop}
+use lib.ListN.{length, take, drop, length-append}
 use lib.Seq.{take_at, drop_at, length-take-le}
 use Rattle.bits.specs.Lay.{lay}
-use Rattle.bits.proofs.LayLaw.{lay_none, lay_length, lay_take, lay_drop, lay_lay}
+use Rattle.bits.proofs.LayLaw.{lay_none, lay_length, lay_drop, lay_lay}
 use Rattle.ask.specs.Ask.{first_no}
 use Rattle.calls.specs.Arguments.{Settings, Plane, Call, settings_of, planes_of, PerStream, Buffers, lengths_of}
-use Rattle.calls.specs.Streams.{dc_stream, ac_stream}
-use Rattle.slice.specs.Plane.{coefficients}
-use Rattle.calls.specs.Questions.{together}
-use Rattle.slice.specs.Calls.{Coded, own_streams, laid_at, coded_by, encode}
-use Rattle.slice.specs.CallLists.{CodedAll, Book, empty_book, Fed, book_at, book_number, put_behind, book_by, book_next, book_after, book_answers, CallAnswer}
+use Rattle.slice.specs.Calls.{Coded, own_streams, coded_by, encode}
+use Rattle.slice.specs.CallLists.{CodedAll, Book, empty_book, Fed, book_at, book_number, book_by, book_next, book_after, book_answers}
 use Rattle.slice.specs.Demand3.{Written, fed, CodingHalf}
 use Rattle.slice.proofs.Law.{dc_fits, ac_fits}
 use Rattle.slice.proofs.Runs.{encode_all}

@@ -1,8 +1,7 @@
 -- Demand 3 holds.
-use mathlib.Core.Path.{◌≡◌, refl, sym, ap, ap₂, ◌∙◌, subst}
-use mathlib.Core.Bool.{Bool, true, false, ◌&&◌}
+use mathlib.Core.Path.{◌≡◌, refl, sym, ap, ◌∙◌, subst}
 use mathlib.Core.List.{List, [], ◌∷◌, ◌++◌, map, append_assoc, append-nil}
-use Prim.Native.Nat.{ℕ, zero, suc, ◌+◌, ◌*◌, ◌/◌, ◌^◌, ◌≤◌, ◌<◌}
+use Prim.Native.Nat.{ℕ, zero, suc, ◌+◌, ◌≤◌}
 use native.Mathlib.Omega.{arith}
 use lib.ListN.{length, take, length-append}
 use lib.Seq.{length-take-le}
@@ -18,7 +17,7 @@ use Rattle.slice.specs.Demand3.{fed, book, planes, read_from, CodingHalf, Planes
 use Rattle.slice.proofs.Runs.{encode_all, decode_all, coded_so, read_so}
 use Rattle.slice.proofs.Legal.{coding_legal}
 use Rattle.slice.proofs.CodeList.{room, with, from_empty, coding}
-use Rattle.slice.proofs.BlocksBack.{Fine, AllFine, fine_join}
+use Rattle.slice.proofs.BlocksBack.{AllFine, fine_join}
 use Rattle.slice.proofs.ReadList.{own_append, Back, Lies, nothing, lies, list_read}
 
 fine_of : (σ : Settings) (ps : List Plane) → LegalSettings σ → Every LegalPlane ps → AllFine σ ps

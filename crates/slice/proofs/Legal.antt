@@ -1,6 +1,6 @@
 -- What a coding call has been found to be where no question turned it away.
 use mathlib.Core.Path.{◌≡◌}
-use Prim.Native.Nat.{ℕ, ◌+◌, ◌≤◌}
+use Prim.Native.Nat.{◌+◌, ◌≤◌}
 use lib.Dec.{leb}
 use borrow.Author.Tests.{leb-true}
 use Rattle.ask.specs.Ask.{first_no}

@@ -1,7 +1,7 @@
 -- The questions of the coding calls at their limits, and their order.
 use mathlib.Core.Path.{◌≡◌, refl}
 use mathlib.Core.Bool.{true}
-use mathlib.Core.List.{List, [], ◌∷◌, ◌++◌}
+use mathlib.Core.List.{[], ◌∷◌, ◌++◌}
 use Rattle.ask.specs.Ask.{first_no}
 use Rattle.ask.proofs.AtLimits.{no, limits, holds}
 use Rattle.calls.proofs.Orders.{on_plane, on_slice, plane_broken, slice_broken}

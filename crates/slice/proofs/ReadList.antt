@@ -1,9 +1,8 @@
 -- A list of reading calls gives back what was coded.
 use mathlib.Core.Path.{◌≡◌, refl, sym, ap, ap₂, ◌∙◌, subst}
 use mathlib.Core.List.{List, [], ◌∷◌, ◌++◌, map, append_assoc}
-use Prim.Native.Nat.{ℕ, zero, suc, ◌+◌, ◌≤◌, ◌<◌}
+use Prim.Native.Nat.{ℕ, zero, suc, ◌+◌}
 use native.Mathlib.Nat.{add-zero, add_assoc}
-use native.Mathlib.Omega.{arith}
 use lib.IntN.{ℤ}
 use lib.ListN.{length, take, drop, length-append, length-map, take-append-drop}
 use lib.Seq.{take-append-add}
@@ -13,12 +12,11 @@ use Rattle.calls.specs.ReadPlane.{BlockRead}
 use Rattle.slice.specs.Plane.{coefficients}
 use Rattle.calls.specs.Questions.{together}
 use Rattle.slice.specs.Calls.{own_streams, PlanesRead, planes_read, read_planes, Decoded, rows_of, rows_made, decode}
-use Rattle.slice.specs.CallLists.{DecodedAll, number_before8, Shape, shape, FollowsBy, Follows, blocks_in, blocks_read}
+use Rattle.slice.specs.CallLists.{number_before8, shape, FollowsBy, Follows, blocks_in, blocks_read}
 use Rattle.slice.specs.Demand3.{PlanesBack, Answered, refused, accepted, AllAnswered}
 use Rattle.slice.proofs.Runs.{decode_all}
 use Rattle.calls.proofs.Legal.{not_bad}
 use Rattle.slice.proofs.BlocksBack.{AllFine, fine_append, ManyIs, none_read, many_back, planes_append, planes_length, same_shapes, regroup}
-use Rattle.ask.specs.Numbers.{no_code}
 
 map_join : {A B : Type 0} (f : A → B) (xs ys : List A) → map f (xs ++ ys) ≡ map f xs ++ map f ys
 map_join f [] ys = refl

@@ -1,9 +1,9 @@
 -- Lists of calls that do what the definitions say: how they run.
-use mathlib.Core.Path.{◌≡◌, refl, sym, ap, ◌∙◌}
+use mathlib.Core.Path.{◌≡◌, refl, ap, ◌∙◌}
 use mathlib.Core.List.{List, [], ◌∷◌}
 use Rattle.calls.specs.Arguments.{Call, PerStream, Buffers}
 use Rattle.slice.specs.Calls.{Coded, encode, Decoded, decode}
-use Rattle.slice.specs.CallLists.{CodedAll, Coding, coded_none, coded_then, DecodedAll, Reading, read_none, read_then, CallAnswer}
+use Rattle.slice.specs.CallLists.{CodedAll, Coding, coded_none, coded_then, DecodedAll, Reading, read_none, read_then}
 
 unfoldable pub encode_all : List Call → Buffers → PerStream → CodedAll
 encode_all [] b at = record { answers = []; at = at; buffers = b }

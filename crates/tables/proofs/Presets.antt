@@ -1,14 +1,14 @@
 -- The choice of a preset, step by step.
-use mathlib.Core.Path.{◌≡◌, refl}
+use mathlib.Core.Path.{◌≡◌, refl, ap, ◌∙◌}
 use mathlib.Core.Bool.{Bool, true, false}
 use mathlib.Core.List.{List, [], ◌∷◌}
-use Prim.Native.Nat.{ℕ, suc, ◌+◌, ◌-◌, ◌≤◌, ◌<◌}
-use native.Mathlib.Numerals.{add-one}
+use Prim.Native.Nat.{ℕ, zero, suc, ◌+◌, ◌-◌, ◌≤◌, ◌<◌}
 use native.Mathlib.Omega.{arith}
 use borrow.Author.Tests.{le-leb, lt-leb}
 use lib.Dec.{T, leb, leb→le, lit<}
 use lib.ListN.{length, get_or, drop}
 use lib.Seq.{drop-cons}
+use Rattle.std.specs.List.{AllWithin, HoldsAt}
 use Rattle.tables.specs.Divisor.{quality_factors}
 use Rattle.tables.specs.Quality.{Chosen, pick_chosen, choose_from, quality_preset}
 use Rattle.tables.proofs.Every.{every_from, every}
@@ -32,33 +32,47 @@ factor_high f i e h = rw e (leb→le (get_or quality_factors i 0) 64 (every size
 abbrev pub choice_at : ℕ → ℕ → Chosen
 choice_at q i = choose_from q i (drop i quality_factors)
 
-pub choice_start : (q : ℕ) → quality_preset q ≡ choice_at q 0
-unfolding quality_preset
-choice_start q = refl
-
 choice_taken : (q i : ℕ) → i < 25 → 100 ≤ get_or quality_factors i 0 + q → choice_at q i ≡ record { quality = 100 - get_or quality_factors i 0; index = i }
 unfolding choose_from
 choice_taken q i h t =
     let e : drop i quality_factors ≡ get_or quality_factors i 0 ∷ drop (suc i) quality_factors = drop-cons quality_factors i 0 (rw factors_length h) in
     rw (e, le-leb 100 (get_or quality_factors i 0 + q) t)
 
-choice_passed : (q i : ℕ) → i < 25 → get_or quality_factors i 0 + q < 100 → choice_at q i ≡ choice_at q (i + 1)
+choice_passed : (q i : ℕ) → i < 25 → get_or quality_factors i 0 + q < 100 → choice_at q i ≡ choice_at q (suc i)
 unfolding choose_from
 choice_passed q i h t =
     let e : drop i quality_factors ≡ get_or quality_factors i 0 ∷ drop (suc i) quality_factors = drop-cons quality_factors i 0 (rw factors_length h) in
-    rw (add-one i, e, lt-leb 100 (get_or quality_factors i 0 + q) t)
+    rw (e, lt-leb 100 (get_or quality_factors i 0 + q) t)
 
-pub chosen_at : (f : List ℕ) (q i : ℕ) → f ≡ quality_factors → i < 25 → 100 ≤ get_or f i 0 + q → choice_at q i ≡ record { quality = 100 - get_or f i 0; index = i }
-chosen_at f q i e h t = rw e (choice_taken q i h (rw e at t))
+-- no factor before i reaches 100 - q
+passed_all : (q i : ℕ) → i ≤ 25 → ((k : ℕ) → k < i → get_or quality_factors k 0 + q < 100) → quality_preset q ≡ choice_at q i
+unfolding quality_preset
+passed_all q zero h p = refl
+passed_all q (suc i) h p = passed_all q i (omega arith) (λ k l. p k (omega arith)) ∙ choice_passed q i h (p i (omega arith))
 
-pub passed_at : (f : List ℕ) (q i : ℕ) → f ≡ quality_factors → i < 25 → get_or f i 0 + q < 100 → choice_at q i ≡ choice_at q (i + 1)
-passed_at f q i e h t = choice_passed q i h (rw e at t)
-
-pub choice_none : (q i : ℕ) → 25 ≤ i → i ≤ 25 → choice_at q i ≡ record { quality = q; index = 0 }
+choice_none : (q : ℕ) → choice_at q 25 ≡ record { quality = q; index = 0 }
 unfolding choose_from quality_factors
-choice_none q i h k =
-    let e : i ≡ 25 = omega arith in
-    rw e refl
+choice_none q = refl
+
+-- what a search for the first factor that reaches least finds
+module _ (f : List ℕ) (q least : ℕ) (e : f ≡ quality_factors) (l : least ≡ 100 - q) where
+  below : (i : ℕ) → AllWithin (λ m. m < least) f 0 i → (k : ℕ) → k < i → get_or quality_factors k 0 + q < 100
+  below i p k h =
+      let a : get_or f k 0 < least = p k 0 (omega arith) h in
+      let b : get_or f k 0 + q < 100 = omega arith in
+      rw e at b
+
+  pub found_one : (i : ℕ) → i < length f → HoldsAt (λ m. least ≤ m) f i → AllWithin (λ m. m < least) f 0 i → quality_preset q ≡ record { quality = 100 - get_or f i 0; index = i }
+  found_one i h t p =
+      let s : length f ≡ 25 = ap length e ∙ factors_length in
+      let a : least ≤ get_or f i 0 = t 0 in
+      let b : 100 ≤ get_or f i 0 + q = omega arith in
+      passed_all q i (omega arith) (below i p) ∙ rw e (choice_taken q i (omega arith) (rw e at b))
+
+  pub found_none : AllWithin (λ m. m < least) f 0 (length f) → quality_preset q ≡ record { quality = q; index = 0 }
+  found_none p =
+      let s : length f ≡ 25 = ap length e ∙ factors_length in
+      passed_all q 25 (omega arith) (below 25 (rw s at p)) ∙ choice_none q
 
 pick_below : (b : Bool) (x y : Chosen) → x.index < 25 → y.index < 25 → (pick_chosen b x y).index < 25
 pick_below true x y h k = h

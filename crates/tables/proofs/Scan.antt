@@ -3,7 +3,6 @@ use mathlib.Core.Path.{◌≡◌, refl}
 use mathlib.Core.Bool.{Bool}
 use Prim.Native.Nat.{ℕ, ◌<◌}
 use lib.Dec.{T, eqb, ltb, eqb→eq, ltb→lt}
-use lib.ListN.{length}
 use Rattle.tables.specs.Zigzag.{zigzag, unzigzag, zigzag_at, unzigzag_at}
 use Rattle.tables.proofs.Every.{both, both_left, both_right, every_from, every}
 
@@ -45,7 +44,3 @@ zigzag_first = refl
 pub zigzag_last : zigzag_at 63 ≡ 63
 unfolding zigzag
 zigzag_last = refl
-
-pub zigzag_length : length zigzag ≡ 64
-unfolding zigzag
-zigzag_length = refl

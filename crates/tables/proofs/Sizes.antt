@@ -1,14 +1,13 @@
 -- How large the divisors are: two computed tests.
 use mathlib.Core.Path.{◌≡◌, refl}
 use mathlib.Core.Bool.{Bool}
-use mathlib.Core.List.{List}
 use Prim.Native.Nat.{ℕ, zero, suc, ◌+◌, ◌*◌, ◌/◌, ◌%◌, ◌≤◌, ◌<◌}
 use native.Mathlib.Omega.{arith}
 use lib.Arith.{digits_div, digits_mod}
 use lib.Dec.{T, leb, leb→le}
 use lib.ListN.{get_or}
 use Rattle.tables.specs.Divisor.{base_matrix, quality_factors, divisor}
-use Rattle.tables.proofs.Every.{both, both_left, both_right, every_from, every}
+use Rattle.tables.proofs.Every.{every_from, every}
 
 -- a test at each preset and place
 module _ (g : ℕ → ℕ → Bool) where
@@ -23,7 +22,7 @@ module _ (g : ℕ → ℕ → Bool) where
       rw (e, e2) at u
 
 sized : ℕ → ℕ → Bool
-sized p y = both (leb 16 (divisor p y)) (leb (divisor p y) 5312)
+sized p y = leb 16 (divisor p y)
 
 all_sized : T (every_from (each sized) 0 1600)
 unfolding sized divisor base_matrix quality_factors
@@ -31,11 +30,7 @@ all_sized = tt
 
 pub divisor_low : (p y : ℕ) → p < 25 → y < 64 → 16 ≤ divisor p y
 unfolding sized
-divisor_low p y hp hy = leb→le 16 (divisor p y) (both_left (leb 16 (divisor p y)) _ (at_each sized all_sized p y hp hy))
-
-pub divisor_high : (p y : ℕ) → p < 25 → y < 64 → divisor p y ≤ 5312
-unfolding sized
-divisor_high p y hp hy = leb→le (divisor p y) 5312 (both_right (leb 16 (divisor p y)) _ (at_each sized all_sized p y hp hy))
+divisor_low p y hp hy = leb→le 16 (divisor p y) (at_each sized all_sized p y hp hy)
 
 last : ℕ → Bool
 last p = leb 83 (divisor p 63)
@@ -49,11 +44,23 @@ pub divisor_last : (p : ℕ) → p < 25 → 83 ≤ divisor p 63
 unfolding last
 divisor_last p hp = leb→le 83 (divisor p 63) (every last 25 last_sized p hp)
 
--- past place 0 a divisor is the product
-divisor_product : (p y : ℕ) → (y ≡ 0 → ⊥) → get_or base_matrix y 0 * get_or quality_factors p 0 ≡ divisor p y
+-- past place 0 a divisor is the product of the base matrix's entry and the preset's factor
+pub divisor_first : (p f : ℕ) → f ≡ get_or quality_factors p 0 → 16 ≡ divisor p 0
 unfolding divisor
-divisor_product p zero n = absurd (n refl)
-divisor_product p (suc y) n = refl
+divisor_first p f e = refl
 
-pub product_is : (b f : List ℕ) (p y : ℕ) → b ≡ base_matrix → f ≡ quality_factors → (y ≡ 0 → ⊥) → get_or b y 0 * get_or f p 0 ≡ divisor p y
-product_is b f p y e g n = rw (e, g) (divisor_product p y n)
+pub divisor_product : (p y f : ℕ) → (y ≡ 0 → ⊥) → f ≡ get_or quality_factors p 0 → get_or base_matrix y 0 * f ≡ divisor p y
+unfolding divisor
+divisor_product p zero f n e = absurd (n refl)
+divisor_product p (suc y) f n e = rw e refl
+
+base_sized : ℕ → Bool
+base_sized y = leb (get_or base_matrix y 0) 83
+
+all_base : T (every_from base_sized 0 64)
+unfolding base_sized base_matrix
+all_base = tt
+
+pub base_high : (y : ℕ) → y < 64 → get_or base_matrix y 0 ≤ 83
+unfolding base_sized
+base_high y h = leb→le (get_or base_matrix y 0) 83 (every base_sized 64 all_base y h)

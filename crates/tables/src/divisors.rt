@@ -1,5 +1,5 @@
 // The divisors: a base matrix times a factor for each preset.
-ghost use Rattle.std.specs.Prelude.{◌≡◌, ◌<◌};
+ghost use Rattle.std.specs.Prelude.{◌≡◌, ◌<◌, ◌≤◌, ℕ, get_or};
 ghost use Rattle.tables.specs.Divisor.{base_matrix, quality_factors, divisor};
 
 const DEFAULT_QUANTIZATION_MATRIX: [u16; 64] = [
@@ -13,6 +13,7 @@ const QUALITY: [u16; 25] = [
 ];
 
 // The base matrix, natural order.
+#[tactic(auto, unfolding(crate::specs::Divisor::base_matrix))]
 pub fn base_matrix() -> [u16; 64]
     ensures { result ≡ base_matrix }
 {
@@ -20,19 +21,17 @@ pub fn base_matrix() -> [u16; 64]
 }
 
 // The factor of each preset.
+#[tactic(auto, unfolding(crate::specs::Divisor::quality_factors))]
 pub fn quality_factors() -> [u16; 25]
     ensures { result ≡ quality_factors }
 {
     QUALITY
 }
 
-// The divisor of a preset's place, out of the two tables.
-pub fn divisor(b: &[u16; 64], f: &[u16; 25], preset: usize, y: usize) -> u16
-    requires { (preset < 25) × ((y < 64) × ((b.now ≡ base_matrix) × (f.now ≡ quality_factors))) }
-    ensures { result ≡ divisor preset y }
+// The divisor of place y, out of the base matrix and the factor of a preset.
+pub fn divisor(base: &[u16; 64], factor: u16, y: usize) -> u16
+    requires { (y < 64) × (base.now ≡ base_matrix) × (factor ≤ 64) }
+    ensures { (preset : ℕ) → factor ≡ get_or quality_factors preset 0 → result ≡ divisor preset y }
 {
-    if y == 0 {
-        return 16;
-    }
-    b[y] * f[preset]
+    if y == 0 { 16 } else { base[y] * factor }
 }

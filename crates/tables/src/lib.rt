@@ -1,5 +1,6 @@
 // Divisors, zig-zag scan and quality presets (tables.rs; `decode` of `QuantTables` of dct.rs; `quality_preset` of layout.rs).
 // A preset's numbers are copied out of the constants once for each plane: a constant that a loop indexes would be built anew in each turn.
+// preset < 25: a caller has it as a number. A type that holds the fact would be made of it for each call, by the same test, and opened in it.
 #![tactic(auto)]
 
 mod divisors;
@@ -18,9 +19,9 @@ pub fn decode_numbers(preset: usize) -> [u16; 64]
     requires { preset < 25 }
     ensures { result ≡ divisors_of preset }
 {
-    let b = divisors::base_matrix();
-    let f = divisors::quality_factors();
-    from_fn(|y| divisors::divisor(&b, &f, preset, y))
+    let base = divisors::base_matrix();
+    let factor = divisors::quality_factors()[preset];
+    from_fn(|y| divisors::divisor(&base, factor, y))
 }
 
 const ZIGZAG: [u8; 64] = [
@@ -30,6 +31,7 @@ const ZIGZAG: [u8; 64] = [
 ];
 
 // The natural place of each scan place.
+#[tactic(auto, unfolding(crate::specs::Zigzag::zigzag))]
 pub fn zigzag_order() -> [u8; 64]
     ensures { result ≡ zigzag }
 {

@@ -13,18 +13,16 @@ pub struct Preset {
 pub fn quality_preset(q: u8) -> Preset
     ensures { (result.quality ≡ (quality_preset q).quality) × (result.index ≡ (quality_preset q).index) }
 {
-    let f = crate::divisors::quality_factors();
-    for i in 0..25 {
-        let m = f[i];
-        if 100 <= m + q as u16 {
-            return Preset {
-                quality: (100 - m) as u8,
-                index: i,
-            };
-        }
-    }
-    Preset {
-        quality: q,
-        index: 0,
+    let factors = crate::divisors::quality_factors();
+    let least = u16::from(100u8.saturating_sub(q));
+    match factors.iter().position(|&factor| least <= factor) {
+        Some(index) => Preset {
+            quality: (100 - factors[index]) as u8,
+            index,
+        },
+        None => Preset {
+            quality: q,
+            index: 0,
+        },
     }
 }

@@ -1,4 +1,6 @@
 // The walks over all streams of a frame, DC and AC, with the views stored in a lent table.
+//
+// What they ask stands in each contract (`Walkable`), and in no type: it would hold the lent table, and each would take it apart.
 ghost use Rattle.std.specs.Prelude.{◌*◌, ◌≤◌, length};
 ghost use Rattle.ask.specs.Limits.{slices_max};
 ghost use Rattle.layout.specs.Geometry.{slice_count};
@@ -18,6 +20,7 @@ const SMALL: usize = 4 * SMALL_SLICES;
 const LARGE: usize = 4 * SLICES_MAX;
 
 // Walks over all streams of a frame whose header is legal: whether AC streams follow. What stands in the table is held.
+#[tactic(auto, using(parser::proofs::head::Laws::legal, parser::proofs::Laws::dc_walk, parser::proofs::Laws::ac_walk, parser::proofs::Laws::dc_no, parser::proofs::Laws::ac_no, parser::proofs::Laws::dc_only, parser::proofs::Laws::ac_too, crate::proofs::both::Laws::dc_walks, crate::proofs::both::Laws::ac_walks, crate::proofs::both::Laws::dc_left, crate::proofs::both::Laws::ac_left, crate::proofs::both::Laws::none_left, crate::proofs::both::Laws::no_dc, crate::proofs::both::Laws::no_ac, crate::proofs::both::Laws::only_dc_lem, crate::proofs::both::Laws::both))]
 fn walk(size: FrameSize, frame: &[u8], table: &mut [u32], held: &[u32]) -> Result<bool, Refusal>
     requires { (Walkable size.width size.height frame.now table.old) × (TableHeld size.height table.old held.now) }
     ensures { Tabled size.width size.height frame.now table.old table.new (walked_says size.height frame.now result) }
@@ -36,6 +39,7 @@ fn walk(size: FrameSize, frame: &[u8], table: &mut [u32], held: &[u32]) -> Resul
 }
 
 // The same, with a place of N numbers to hold what stands there.
+#[tactic(auto, using(crate::proofs::both::Laws::holding))]
 fn walk_in<const N: usize>(
     size: FrameSize,
     frame: &[u8],
@@ -46,17 +50,18 @@ fn walk_in<const N: usize>(
 {
     let mut held = [0u32; N];
     let n = 4 * layout::slice_count(size.height);
-    crate::walk::table::copy(&mut held, table, n);
+    crate::walk::table::put(&mut held, 0, &table[..n]);
     walk(size, frame, table, &held)
 }
 
 // The same, with a small place that is filled to its end, for a table of as many numbers.
+#[tactic(auto, using(crate::proofs::both::Laws::holding))]
 fn walk_whole(size: FrameSize, frame: &[u8], table: &mut [u32]) -> Result<bool, Refusal>
     requires { (Walkable size.width size.height frame.now table.old) × (slice_count size.height ≤ small_slices) × (small_table ≤ length table.old) }
     ensures { Tabled size.width size.height frame.now table.old table.new (walked_says size.height frame.now result) }
 {
     let mut held = [0u32; SMALL];
-    crate::walk::table::copy(&mut held, table, SMALL);
+    crate::walk::table::put(&mut held, 0, &table[..SMALL]);
     walk(size, frame, table, &held)
 }
 

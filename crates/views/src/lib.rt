@@ -35,6 +35,7 @@ fn views_asked(width: usize, height: usize, frame: &[u8], room: usize) -> Result
 }
 
 // All views of a frame into the table, and what its header says.
+#[tactic(auto, using(crate::proofs::Laws::views_no, crate::proofs::Laws::views_yes, crate::proofs::Laws::tabled))]
 pub fn all_views(
     width: usize,
     height: usize,

@@ -13,8 +13,12 @@ ghost use Rattle.parser.specs.Frame.{nth_stream};
 ghost use Rattle.views.specs.walk.Table.{views_of};
 ghost use Rattle.views.specs.walk.Walk.{walk_left, Walks};
 
+// `k` is the number of a view, and no part of the table is lent to the loop: where a stream is refused, what is held goes over
+// the parts of all turns before.
+//
 // Stores the views of the n streams at p after `from` others; the place after them. Where one is refused, the numbers that
 // are held go into the places of all these views. No stream is longer than 430,080 bytes, so every offset fits.
+#[tactic(auto, using(crate::proofs::walk::Walk::begins, crate::proofs::walk::Walk::goes_on_lem, crate::proofs::walk::Walk::stops, crate::proofs::walk::Walk::undone, crate::proofs::walk::Walk::ends, crate::proofs::walk::Walk::stores, crate::proofs::walk::Walk::one_within))]
 pub fn walk_views(
     f: &[u8],
     n: usize,
@@ -33,16 +37,12 @@ pub fn walk_views(
     for k in 0..n {
         match parser::streams::one_stream(f, limit, at) {
             Ok(end) => {
-                table::put_view(
-                    table,
-                    2 * (from + k),
-                    (at + 4) as u32,
-                    (end - (at + 4)) as u32,
-                );
+                let view = [(at + 4) as u32, (end - (at + 4)) as u32];
+                table::put(table, 2 * (from + k), &view);
                 at = end;
             }
             Err(no) => {
-                table::copy(table, held, 2 * (from + n));
+                table::put(table, 0, &held[..2 * (from + n)]);
                 return Err(no);
             }
         }

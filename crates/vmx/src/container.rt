@@ -2,6 +2,8 @@
 //
 // A call answers document 01's number, 0 where it is accepted, and leaves the rest of its answer in the places that its
 // caller lends for it. A refused call leaves them as they were; a refused part has offset 0 and length 0.
+//
+// Numbers stand for truth values, kinds and verdicts, and each part of an answer has a place of its own: that is the C interface.
 ghost use Rattle.std.specs.Prelude.{◌≡◌};
 ghost use Rattle.layout.specs.Geometry.{layout_of, interlace_capable_of, layout_row, preview_size_of};
 ghost use Rattle.parser.specs.Frame.{parse_of, view_of};
@@ -50,6 +52,7 @@ pub fn vmx_layout(
 }
 
 // Whether a frame of this size is interlaced when it says so: 1 or 0.
+#[tactic(auto, using(layout::proofs::Laws::fits))]
 pub fn vmx_interlace_capable(width: usize, height: usize, capable: &mut u32) -> u32
     ensures { handed result capable.new ≡ handed_by (interlace_capable_of width height) flag_of capable.old }
 {
@@ -63,6 +66,7 @@ pub fn vmx_interlace_capable(width: usize, height: usize, capable: &mut u32) -> 
 }
 
 // Whether a coded row is a row of the image (1) or padding (0), and which one; of padding nothing is said.
+#[tactic(auto, using(layout::proofs::Laws::fits))]
 pub fn vmx_image_row(
     width: usize,
     height: usize,
@@ -86,6 +90,7 @@ pub fn vmx_image_row(
 }
 
 // The width and the height of the 1/8 preview.
+#[tactic(auto, using(layout::proofs::Laws::fits))]
 pub fn vmx_preview_size(
     width: usize,
     height: usize,
@@ -248,6 +253,7 @@ pub fn vmx_frame_complete(
 }
 
 // In which of two pictures of so many samples the slice's sixteen rows lie (1 the new one, 0 the held one), and where.
+#[tactic(auto, using(shown::proofs::Laws::shows, crate::proofs::Laws::shown_refused, crate::proofs::Laws::shown_there))]
 pub fn vmx_shown_rows(
     new: usize,
     held: usize,

@@ -34,7 +34,7 @@ pub fn vmx_encode_plane10(
     let h = Shape { place, stride };
     let s = Settings { preset, shift };
     let r = encoder::encode_plane(rows, h, s, dc, ac, at);
-    outs::plane::coded_out(r, dc_at, ac_at)
+    outs::plane::positions_out(r, dc_at, ac_at)
 }
 
 // Codes the first `count` of four planes, places 0 to 3, one after the other.
@@ -70,7 +70,7 @@ pub fn vmx_encode_slice10(
     };
     let s = Settings { preset, shift };
     let r = encoder::encode_slice(p0, p1, p2, p3, f, s, dc, ac, at);
-    outs::plane::coded_out(r, dc_at, ac_at)
+    outs::plane::positions_out(r, dc_at, ac_at)
 }
 
 // Reads a plane into its rows.
@@ -96,7 +96,7 @@ pub fn vmx_decode_plane10(
     let h = Shape { place, stride };
     let s = Settings { preset, shift };
     let r = decoder::decode_plane(rows, h, s, dc, ac, at);
-    outs::plane::read_out(r, dc_at, ac_at)
+    outs::plane::positions_out(r, dc_at, ac_at)
 }
 
 // Reads the first `count` of four planes, places 0 to 3, one after the other.
@@ -133,5 +133,5 @@ pub fn vmx_decode_slice10(
     };
     let s = Settings { preset, shift };
     let r = decoder::decode_slice(p0, p1, p2, p3, f, s, dc, ac, at);
-    outs::plane::read_out(r, dc_at, ac_at)
+    outs::plane::positions_out(r, dc_at, ac_at)
 }

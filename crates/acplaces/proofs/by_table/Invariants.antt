@@ -1,6 +1,6 @@
 -- `acplaces::by_table`: the loop over looks.
 use mathlib.Core.Path.{◌≡◌}
-use Prim.Native.Nat.{◌+◌, ◌-◌, ◌<◌}
+use Prim.Native.Nat.{◌+◌, ◌<◌}
 use Rattle.acplaces.specs.Going.{Onward}
 use Rattle.acplaces.proofs.by_table.Given as goal
 

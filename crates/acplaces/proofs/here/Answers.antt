@@ -9,6 +9,3 @@ pub returns-then-i-s : goal.returns-then-i-s
 returns-then-i-s c =
     let a = c.args in
     (at_new a.s.now a.p ((c.word.result * 2 ^ (a.p % 8)) % 2 ^ 64) (holds_peek a.s.now a.p c.word.result c.word.ensures), refl)
-
-pub returns-else-i-s : goal.returns-else-i-s
-returns-else-i-s c = (c.cursor.ensures.0, c.cursor.ensures.1)

@@ -16,10 +16,10 @@ skip-c-requires c =
     let e = get_or c.args.tab.now i 0 in
     let low : i < 1024 = search rules in
     let many = c.loop-c-test.true in
-    let ee = (c.requires.3.1 (omega (arith, many, l.invariant.2))).1 i low in
+    let ee = c.requires.4 i low in
     let last : l.place + before_last e < 64 = omega (arith, c.if-last-ge64.false, c.before_last.ensures) in
     let n = look_less i e low ee l.place last in
-    (omega (arith, n.1, c.taken.ensures, many, c.requires.3.0), omega (arith, n.1, c.taken.ensures), omega (arith, l.invariant.1, c.requires.1, c.requires.0))
+    (omega (arith, n.1, c.taken.ensures, many), omega (arith, n.1, c.taken.ensures), omega (arith, l.invariant.1, c.requires.1, c.requires.0))
 
 pub loop-c-smaller : goal.loop-c-smaller
 loop-c-smaller c =
@@ -28,10 +28,10 @@ loop-c-smaller c =
     let e = get_or c.args.tab.now i 0 in
     let low : i < 1024 = search rules in
     let many = c.loop-c-test.true in
-    let ee = (c.requires.3.1 (omega (arith, many, l.invariant.2))).1 i low in
+    let ee = c.requires.4 i low in
     let last : l.place + before_last e < 64 = omega (arith, c.if-last-ge64.false, c.before_last.ensures) in
     let n = look_less i e low ee l.place last in
-    omega (arith, n.0, c.skip-c.ensures.1, c.taken.ensures, many, c.requires.3.0)
+    omega (arith, n.0, c.skip-c.ensures.1, c.taken.ensures, many)
 
 pub loop-c-preserved : goal.loop-c-preserved
 loop-c-preserved c =
@@ -40,15 +40,15 @@ loop-c-preserved c =
     let e = get_or c.args.tab.now i 0 in
     let low : i < 1024 = search rules in
     let many = c.loop-c-test.true in
-    let ee = (c.requires.3.1 (omega (arith, many, l.invariant.2))).1 i low in
+    let ee = c.requires.4 i low in
     let last : l.place + before_last e < 64 = omega (arith, c.if-last-ge64.false, c.before_last.ensures) in
     let n = look_less i e low ee l.place last in
     let q = c.taken.ensures in
     let f = c.skip-c.ensures in
     let m = c.places-place.ensures in (
-      look_onward c.args.a l.c l.place l.invariant.0 e (omega (arith, many, c.requires.3.0)) low ee last c.skip-c.result
+      look_onward c.args.a l.c l.place l.invariant.0 e (omega (arith, many)) low ee last c.skip-c.result
           (f.0 ∙ ap (λ (x : ℕ). l.c.pos + x) q) (f.1 ∙ ap (λ (x : ℕ). l.c.count - x) q) (f.2 ∙ ap (λ (x : ℕ). (l.c.bits * 2 ^ x) % 2 ^ 64) q) m,
-      omega (arith, f.0, f.1, l.invariant.1, q, n.1, many, c.requires.3.0),
+      omega (arith, f.0, f.1, l.invariant.1, q, n.1, many),
       omega (arith, f.1, l.invariant.2),
       omega (arith, c.if-last-ge64.false, m),
     )

@@ -9,21 +9,20 @@ use Rattle.acread.proofs.skip_block.Goals.{else-loop-place-test, then-loop-place
 pub loop-place-init : goal.loop-place-init
 loop-place-init c = (c.requires.1, going_start c.args.s.now c.args.c0 c.args.pending c.requires.0 c.requires.2)
 
-pub returns-then-g-eq0 : goal.returns-then-g-eq0
-returns-then-g-eq0 c =
+pub returns-in_err-g : goal.returns-in_err-g
+returns-in_err-g c =
     let a = c.args in
-    let t = c.by_table-a in
-    let g = c.next_symbol-g in
+    let t = c.looked-a in
     let i = t.ensures.goes a.s.now a.c0.pos a.pending c.loop-place.invariant.1 in
-    going_bad a.s.now a.c0.pos a.pending t.result.c t.result.place g.result i (omega arith) g.ensures c.if-g-eq0.true
+    rw c.from_residual.ensures (going_bad a.s.now a.c0.pos a.pending t.result.c t.result.place i (omega arith) c.in_err-g.ensures)
 
 pub loop-place-preserved : goal.loop-place-preserved
 loop-place-preserved c =
     let a = c.args in
-    let t = c.by_table-a in
-    let g = c.next_symbol-g in
+    let t = c.looked-a in
+    let g = c.in_ok-g in
     let i = t.ensures.goes a.s.now a.c0.pos a.pending c.loop-place.invariant.1 in
-    (c.loop-place.invariant.0, going_turn a.s.now a.c0.pos a.pending t.result.c t.result.place g.result i (omega arith) g.ensures (omega arith) c.span-place.ensures)
+    (c.loop-place.invariant.0, going_turn a.s.now a.c0.pos a.pending t.result.c t.result.place g.g i (omega arith) g.ensures c.span-place.ensures)
 
 -- the block is over, by a symbol or by a look
 pub returns : goal.returns
@@ -34,6 +33,6 @@ returns c =
     elim c.loop-place-test.branch [
       | else-loop-place-test w ↦ (going_same w.c-is w.place-is i, omega (arith, w.loop-place-test.false, w.place-is))
       | then-loop-place-test+then-place-ge64 w ↦
-          (going_same w.c-is w.place-is (w.by_table-a.ensures.goes a.s.now a.c0.pos a.pending i), omega (arith, w.if-place-ge64.true, w.place-is))
+          (going_same w.c-is w.place-is (w.looked-a.ensures.goes a.s.now a.c0.pos a.pending i), omega (arith, w.if-place-ge64.true, w.place-is))
     ] in
     going_over a.s.now a.c0.pos a.pending c.loop-place-test.c c.loop-place-test.place e.0 e.1

@@ -6,7 +6,8 @@ use native.Mathlib.Omega.{arith}
 use Rattle.ask.specs.Ask.{refused, accepted}
 use Rattle.ask.specs.Numbers.{no_code}
 use Rattle.bits.specs.Bits.{bit_at}
-use Rattle.bitreader.specs.Cursor.{At, NextDc}
+use Rattle.std.specs.Prelude.{None}
+use Rattle.bitreader.specs.Cursor.{At, DcGot, NextDc}
 use Rattle.bitreader.specs.declared.AcCursor.{AcCursor}
 use Rattle.bitreader.specs.declared.Got.{Got}
 use Rattle.calls.specs.ReadPlane.{read_steps}
@@ -25,17 +26,17 @@ going_start s p n c a e = record { same = ap (λ (x : ℕ). dc_bit (read_steps n
 pub going_left : {s : List ℕ} {p n : ℕ} {c : AcCursor} {left : ℕ} (m : ℕ) → left ≡ m → Going s p n c left → Going s p n c m
 going_left {s} {p} {n} {c} m e i = subst (λ (x : ℕ). Going s p n c x) e i
 
-module _ (s : List ℕ) (p n : ℕ) (c : AcCursor) (m : ℕ) (i : Going s p n c (suc m)) (g : Got) (b : NextDc s c g) where
-  pub going_next : (g.num ≡ 0 → ⊥) → Going s p n g.c m
-  going_next z =
+module _ (s : List ℕ) (p n : ℕ) (c : AcCursor) (m : ℕ) (i : Going s p n c (suc m)) where
+  pub going_next : (g : Got) → DcGot s c g → Going s p n g.c m
+  going_next g b =
       record {
-        same = i.same ∙ bit_next (bit_at s) m c.pos g.num g.run g.c.pos b.answer (omega arith);
+        same = i.same ∙ bit_next (bit_at s) m c.pos g.num g.run g.c.pos b.answer;
         holds = b.next.ready;
         near = omega (arith, b.next.near, i.near);
       }
 
-  pub going_bad : g.num ≡ 0 → dc_bit (read_steps n (bit_at s) p) ≡ refused no_code
-  going_bad z = i.same ∙ ap dc_bit (steps_bad (bit_at s) m c.pos g.num g.run g.c.pos b.answer z)
+  pub going_bad : NextDc s c None → dc_bit (read_steps n (bit_at s) p) ≡ refused no_code
+  going_bad b = i.same ∙ ap dc_bit (steps_bad (bit_at s) m c.pos b)
 
 pub going_over : (s : List ℕ) (p n : ℕ) (c : AcCursor) (left : ℕ) → left ≡ 0 → Going s p n c left → dc_bit (read_steps n (bit_at s) p) ≡ accepted c.pos
 going_over s p n c left e i = i.same ∙ ap (λ (x : ℕ). dc_bit (read_steps x (bit_at s) c.pos)) e ∙ none_bit (bit_at s) c.pos

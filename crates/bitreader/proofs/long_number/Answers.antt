@@ -5,6 +5,7 @@ use Prim.Native.Nat.{ℕ, suc, ◌+◌, ◌-◌, ◌/◌, ◌%◌, ◌^◌, ◌�
 use native.Mathlib.Omega.{arith}
 use mathlib.Core.List.{List}
 use lib.Count.{count_leading_zeros}
+use Rattle.std.specs.Prelude.{Some, None}
 use Rattle.bits.specs.Bits.{bit_at}
 use Rattle.bits.specs.Read.{read_tail}
 use Rattle.bitreader.specs.words.Word.{Holds, number_of}
@@ -13,11 +14,11 @@ use Rattle.bitreader.proofs.Leads.{lead_few, lead_many}
 use Rattle.bitreader.proofs.Spans.{tail_no, tail_yes}
 use Rattle.bitreader.proofs.long_number.Goals as goal
 
-refused : (s : List ℕ) (p w : ℕ) → Holds s p (64 - p % 8) w → 54 < count_leading_zeros 64 w → 0 ≡ number_of (read_tail (bit_at s) p)
+refused : (s : List ℕ) (p w : ℕ) → Holds s p (64 - p % 8) w → 54 < count_leading_zeros 64 w → None ≡ number_of (read_tail (bit_at s) p)
 refused s p w h l = tail_no (bit_at s) p (lead_many 55 (64 - p % 8) (bit_at s) p w h (omega arith) (omega arith) l)
 
 read : (s : List ℕ) (p w v : ℕ) → Holds s p (64 - p % 8) w → count_leading_zeros 64 w ≤ 54 → Holds s (p + count_leading_zeros 64 w) (64 - (p + count_leading_zeros 64 w) % 8) v
-    → v / 2 ^ (62 - count_leading_zeros 64 w) ≡ number_of (read_tail (bit_at s) p)
+    → Some (v / 2 ^ (62 - count_leading_zeros 64 w)) ≡ number_of (read_tail (bit_at s) p)
 read s p w v h l g =
     let z : ℕ = count_leading_zeros 64 w in
     let k : count_leading_zeros 64 w < 55 = omega arith in
@@ -27,10 +28,7 @@ read s p w v h l g =
     (ap (λ (x : ℕ). v / 2 ^ x) e1 ∙ holds_top s (p + count_leading_zeros 64 w) (64 - (p + count_leading_zeros 64 w) % 8) v (suc (suc (count_leading_zeros 64 w))) g (omega arith) (omega arith))
 
 pub returns-then-z-gt54 : goal.returns-then-z-gt54
-returns-then-z-gt54 c = let a = c.before.before.before.args in refused a.s.now a.p c.before.far-z.result c.before.far-z.ensures c.if-z-gt54.true
+returns-then-z-gt54 c = refused c.args.s.now c.args.p c.far-z.result c.far-z.ensures c.if-z-gt54.true
 
 pub returns : goal.returns
-returns c =
-    let a = c.before.before.before.before.args in
-    let k = c.before.before.far-z in
-    read a.s.now a.p k.result c.far.result k.ensures c.before.if-z-gt54.false c.far.ensures
+returns c = read c.args.s.now c.args.p c.far-z.result c.far.result c.far-z.ensures c.if-z-gt54.false c.far.ensures

@@ -1,23 +1,31 @@
--- `bitreader::next_dc` meets its contract: where the look finds a longer code, the slow path reads it. Assumes nothing.
+-- `bitreader::next_dc` meets its contract: where the look finds no code, the slow path reads it. Assumes nothing.
+use mathlib.Core.Path.{sym, subst}
 use native.Mathlib.Omega.{arith}
-use Rattle.bitreader.proofs.Longs.{dc_next, dc_answer}
+use Rattle.std.specs.Prelude.{Some, None}
+use Rattle.bits.specs.Bits.{bit_at}
+use Rattle.bitreader.specs.Cursor.{NextDc}
+use Rattle.bitreader.proofs.Spans.{dc_bad, dc_size}
+use Rattle.bitreader.proofs.Looks.{dc_at}
+use Rattle.bitreader.proofs.Longs.{long_dc}
 use Rattle.bitreader.proofs.next_dc.Goals as goal
+
+pub returns-in_err-v : goal.returns-in_err-v
+returns-in_err-v c =
+    let s = c.args.s.now in
+    let f = c.filled-d in
+    let d = f.result in
+    subst (NextDc s c.args.c) (sym c.from_residual.ensures) (dc_at s c.args.c d None f.ensures.1 (dc_bad (bit_at s) d.pos (c.in_default.ensures s f.ensures.0) c.in_err-v.ensures))
 
 pub longer-requires : goal.longer-requires
 longer-requires c =
-    let q = c.before.before.before.before.before.quick_dc-h in
-    (omega (arith, q.ensures.0.stays c.before.before.before.if-h-eq0.true), omega arith)
+    let s = c.args.s.now in
+    let f = c.filled-d in
+    let d = f.result in
+    (omega arith, omega arith, (dc_size (bit_at s) d.pos (c.in_default.ensures s f.ensures.0) c.in_ok-v.v c.in_ok-v.ensures).more)
 
-pub returns-then-h-eq0 : goal.returns-then-h-eq0
-returns-then-h-eq0 c =
-    let q = c.before.before.before.before.before.before.quick_dc-h in
-    let a = c.before.before.before.before.before.before.before.before.args in
-    let t = c.before.before.before.before.if-h-eq0.true in
-    let v = c.before.long_number-v in
-    record {
-      next = dc_next a.s.now a.c q.result q.ensures.0 t v.result c.longer.result c.longer.ensures v.ensures;
-      answer = dc_answer a.s.now a.c q.result q.ensures.0 t v.result c.longer.result c.longer.ensures v.ensures;
-    }
-
-pub returns-else-h-eq0 : goal.returns-else-h-eq0
-returns-else-h-eq0 c = let q = c.before.before.quick_dc-h in record { next = q.ensures.0.next; answer = q.ensures.1 (omega arith) }
+pub returns : goal.returns
+returns c =
+    let s = c.args.s.now in
+    let f = c.filled-d in
+    let d = f.result in
+    rw c.longer.ensures (dc_at s c.args.c d (Some _) f.ensures.1 (long_dc s d (c.in_default.ensures s f.ensures.0) c.in_ok-v.v c.in_ok-v.ensures))

@@ -1,5 +1,5 @@
 -- The next bits of a stream at the top of a word of 64 bits.
-use Rattle.std.specs.Prelude.{◌≡◌, List, ℕ, ◌+◌, ◌-◌, ◌*◌, ◌^◌}
+use Rattle.std.specs.Prelude.{◌≡◌, List, Option, Some, None, ℕ, ◌+◌, ◌-◌, ◌*◌, ◌^◌}
 use Rattle.bits.specs.Bits.{bit_at, num}
 use Rattle.bits.specs.Read.{Tail, bad_tail, number}
 
@@ -11,7 +11,7 @@ Holds s p n w = w ≡ num n 0 (bit_at s) p * 2 ^ (64 - n)
 unfoldable pub eight : ℕ → ℕ → ℕ → ℕ → ℕ → ℕ → ℕ → ℕ → ℕ
 eight a b c d e f g h = a * 2 ^ 56 + (b * 2 ^ 48 + (c * 2 ^ 40 + (d * 2 ^ 32 + (e * 2 ^ 24 + (f * 2 ^ 16 + (g * 2 ^ 8 + h))))))
 
--- the number of a tail as the code hands it out: 0 for a bad one
-abbrev pub number_of : Tail → ℕ
-number_of bad_tail = 0
-number_of (number n q) = n
+-- the number of a tail; none for a bad one
+abbrev pub number_of : Tail → Option ℕ
+number_of bad_tail = None
+number_of (number n q) = Some n

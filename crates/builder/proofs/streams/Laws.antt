@@ -2,11 +2,11 @@
 use mathlib.Core.Path.{◌≡◌, refl, sym, ap, ap₂, ◌∙◌}
 use mathlib.Core.Bool.{Bool, true, false}
 use mathlib.Core.List.{List, [], ◌∷◌}
-use Prim.Native.Nat.{ℕ, zero, suc, ◌+◌, ◌-◌, ◌≤◌, ◌<◌}
+use Prim.Native.Nat.{ℕ, zero, suc, ◌+◌, ◌≤◌, ◌<◌}
 use native.Mathlib.Omega.{arith}
 use lib.Dec.{leb, ltb, eqb}
 use lib.ListN.{length}
-use borrow.Author.Tests.{le-leb, lt-leb, leb-true, leb-false, ltb-true, eqb-true}
+use borrow.Author.Tests.{le-leb, leb-true, ltb-true, eqb-true}
 use Rattle.ask.proofs.Asked.{asked_no, asked_yes}
 use Rattle.ask.specs.Refusals.{number_of}
 use Rattle.ask.specs.declared.refusal.Refusal.{Refusal}
@@ -15,27 +15,9 @@ use Rattle.ask.specs.Limits.{width_max}
 use Rattle.bits.specs.Lay.{lay}
 use Rattle.bits.proofs.LayLaw.{lay_lay}
 use Rattle.layout.specs.Geometry.{size_question, size_ok, slice_count, max_dc_len, max_ac_len, limit_of}
-use Rattle.layout.specs.Views.{is_ac}
-use Rattle.layout.specs.declared.Kind.{Kind}
-use Rattle.layout.specs.declared.Kind.TheVariants as kind
 use Rattle.builder.specs.Build.{Build, Built}
 use Rattle.builder.proofs.Laws.{built}
 use Rattle.builder.specs.streams.Put.{length_word, stream_questions, stream_of, stream_bytes, in_turn, after_stream, next_turn, same, is_complete, complete_of}
-
--- ---- room, by difference
-pub by_difference4 : (len at n : ℕ) → at + 4 ≤ len → leb n (len - at - 4) ≡ leb (at + (4 + n)) len
-by_difference4 len at n h = go (leb (at + (4 + n)) len) refl
-  where
-    go : (b : Bool) → leb (at + (4 + n)) len ≡ b → leb n (len - at - 4) ≡ b
-    go true e = le-leb n (len - at - 4) (omega (arith, leb-true (at + (4 + n)) len e))
-    go false e = lt-leb n (len - at - 4) (omega (arith, leb-false (at + (4 + n)) len e))
-
--- ---- the limit of a kind
-pub dc_limit : (w : ℕ) {k : Kind} {n : ℕ} → k ≡ kind.Dc → n ≡ max_dc_len w → n ≡ limit_of (is_ac k) w
-dc_limit w e f = rw e f
-
-pub ac_limit : (w : ℕ) {k : Kind} {n : ℕ} → k ≡ kind.Ac → n ≡ max_ac_len w → n ≡ limit_of (is_ac k) w
-ac_limit w e f = rw e f
 
 -- ---- what the questions leave
 pub stream_yes : (w h : ℕ) (b : Build) (ac : Bool) (slice n len : ℕ) → leb (b.at + (4 + n)) len ≡ true → size_ok w h ≡ true → n ≤ limit_of ac w → in_turn (slice_count h) ac slice b ≡ true
@@ -58,7 +40,7 @@ in_its_turn : (slices : ℕ) (ac : Bool) (slice : ℕ) (b : Build) → in_turn s
 in_its_turn slices ac slice b e = go (ltb slice slices) refl (same ac b.ac_turn) refl (eqb slice b.next) refl
   where
     no : false ≡ true → ⊥
-    no g = let z : ◌≡◌ {A = ℕ} 0 1 = cc in omega arith
+    no g = cc
 
     go : (p : Bool) → ltb slice slices ≡ p → (q : Bool) → same ac b.ac_turn ≡ q → (r : Bool) → eqb slice b.next ≡ r → Turn slices ac slice b
     go false x q y r z = absurd (no (rw x at e))
@@ -142,7 +124,7 @@ module _ (w h : ℕ) (b : Build) (ac : Bool) (slice : ℕ) (s out : List ℕ) wh
   put_says {r} e = go (first_no (stream_questions w h b ac slice (length s) (length out))) refl
     where
       never : {n : ℕ} → ◌≡◌ {A = Answer Built} (refused n) (accepted r) → ⊥
-      never f = let z : ◌≡◌ {A = ℕ} 0 1 = cc in omega arith
+      never f = cc
 
       go : (n : ℕ) → first_no (stream_questions w h b ac slice (length s) (length out)) ≡ n → Puts w h b ac slice (length s) (length out)
       go zero f = puts w h b ac slice (length s) (length out) f

@@ -10,18 +10,6 @@ use Rattle.encplane.proofs.Laws.{block_at, part_samples, part_room}
 use Rattle.encplane.proofs.Loops.{begun, room, coded, next_row, last_room, done}
 use Rattle.encplane.proofs.plane.Goals as goal
 
-pub new-k-requires : goal.new-k-requires
-new-k-requires g c = omega (arith, c.requires.settings.preset_le)
-
-pub loop-j-init : goal.loop-j-init
-loop-j-init g c = (omega arith, λ b at x. x)
-
-pub loop-i-init : goal.loop-i-init
-loop-i-init g c = (omega arith, λ b at x. x)
-
-pub corner-c-requires : goal.corner-c-requires
-corner-c-requires g c = (c.loop-j-test.true, c.requires.plane.stride_le, omega (arith, c.loop-i-test.true, c.requires.plane.stride_le))
-
 pub slice_bounds-fdct_quant_zig-start : goal.slice_bounds-fdct_quant_zig-start
 slice_bounds-fdct_quant_zig-start g c =
     omega (arith, c.corner-c.ensures, corner_fits c.loop-j.j c.loop-i.i c.args.h.stride c.loop-j-test.true c.loop-i-test.true, c.requires.plane.rows_long, samples_length {number = g.S.Sample.number} {samples = g.S.Sample.samples} g.met.S.Sample.lists c.args.rows.now)

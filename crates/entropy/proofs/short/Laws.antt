@@ -16,10 +16,7 @@ use Rattle.bits.specs.Signed.{code_of}
 use Rattle.bits.proofs.Leading.{length_le}
 use Rattle.bits.proofs.CodeWord.{value_fits, run_fits}
 use Rattle.bitwriter.specs.Pairs.{run_word, run_length, value_length, pair_code}
-use Rattle.bitwriter.specs.Put.{Put, Room}
-use Rattle.bitwriter.specs.declared.BitAcc.{BitAcc}
 use Rattle.bitwriter.specs.declared.PairCode.{PairCode}
-use Rattle.bitwriter.proofs.Pairs.{pair_word}
 use Rattle.entropy.specs.short.Tables.{place_of, code_by, code_at, run_entry, value_entry, run_table, value_table}
 
 -- ---- an entry's code and length
@@ -94,15 +91,3 @@ place_code (negsuc n) h l =
     let s : n < 127 = omega (arith, h.sfits) in
     let p : place_of (negsuc n) + n ≡ 126 = omega arith in
     code_by_lem (place_of (negsuc n) - 127) (127 - place_of (negsuc n)) 0 (suc n) (omega arith) (omega arith)
-
--- ---- a pair that is put
-pub pair_asks : {a : BitAcc} {o : List ℕ} {q : PairCode} (n c : ℕ) → q ≡ pair_code n c → n < 2 ^ 17 → 0 < c → c < 2 ^ 15 → Room a (length (run_code n ++ value_code c)) o
-    → (q.length < 64) × (q.bits < 2 ^ q.length) × Room a q.length o
-pair_asks {a} {o} n c e h k l r =
-    let p = pair_word n c h k l in
-    rw e (p.few, p.fits, subst (λ (m : ℕ). Room a m o) p.long r)
-
-pub pair_put : (a : BitAcc) {o : List ℕ} {q : PairCode} {b : BitAcc} {w : List ℕ} (n c : ℕ) → q ≡ pair_code n c → n < 2 ^ 17 → 0 < c → c < 2 ^ 15
-    → Put a o (bits_of q.length q.bits) b w → Put a o (run_code n ++ value_code c) b w
-pair_put a {o} {q} {b} {w} n c e h k l v =
-    subst (λ (m : List Bool). Put a o m b w) (ap (λ (x : PairCode). bits_of x.length x.bits) e ∙ sym (pair_word n c h k l).code) v

@@ -34,6 +34,7 @@ const VALUES: [u16; 255] = [
 ];
 
 // The codes of the runs 0 to 63.
+#[tactic(auto, unfolding(crate::specs::short::Tables::run_table, scalar::specs::Tab::tab_from, bits::specs::Bits::bit_length, bits::specs::Bits::halvings))]
 pub fn run_codes() -> [u16; 64]
     ensures { result ≡ run_table }
 {
@@ -41,6 +42,7 @@ pub fn run_codes() -> [u16; 64]
 }
 
 // The codes of the values -127 to 127.
+#[tactic(auto, unfolding(crate::specs::short::Tables::value_table, scalar::specs::Tab::tab_from, bits::specs::Bits::bit_length, bits::specs::Bits::halvings))]
 pub fn value_codes() -> [u16; 255]
     ensures { result ≡ value_table }
 {

@@ -1,37 +1,31 @@
-use borrow.Author.Rules.{sfits_of}
-use native.Mathlib.Omega.{arith}
-use mathlib.Core.Path.{refl, ap, ◌∙◌}
-use lib.IntN.{ℤ}
+use Rattle.std.proofs.Common.{◌≡◌, ℕ, ◌<◌, ◌∙◌, ap, List, [], ◌∷◌, length, get_or, map, ℤ, arith, rules}
 use mir.Syntax.{w16}
 use mir.Facts.{to_z-of_z}
 use Rattle.scalar.specs.Scalar.{adds_of}
-use Rattle.scalar.specs.Tab.{tab}
+use Rattle.scalar.specs.Tab.{tab, lane}
 use Rattle.scalar.proofs.Laws.{back}
-use Rattle.scalar.proofs.Fill.{filled_next, filled_done}
+use Rattle.scalar.proofs.Fill.{list_tab, tab_ext}
 use Rattle.sample.specs.Depth.{is_ten}
 use Rattle.sample.specs.Numbers.{sample_of}
-use Rattle.sample.proofs.Lists.{samples_length, samples_set}
+use Rattle.sample.proofs.Lists.{samples_length, samples_at}
 use Rattle.idct.proofs.Bounds.{level_samples}
-use Rattle.idct.proofs.samples.Invariants.{at}
 use Rattle.idct.proofs.samples.Goals as goal
 
-pub loop-i-init : goal.loop-i-init
-loop-i-init g c = (omega arith, (samples_length g.met.S.Sample.lists _, refl))
-
-pub loop-i-preserved : goal.loop-i-preserved
-loop-i-preserved g c =
-    let ten = is_ten g.S.Sample.depth in
-    let v = c.args.v in
-    let level = back w16 c.args.level in
-    let l = c.loop-i in
-    rw (samples_set g.met.S.Sample.lists l.p l.i c.from_number.result)
-    (filled_next 64 (at ten level v) (g.S.Sample.samples l.p) l.i c.loop-i-test.true l.invariant
-    (c.from_number.ensures ∙ ap (sample_of ten) (to_z-of_z {w = w16} (sfits_of c.adds1.type_inv) ∙ c.adds1.ensures ∙ ap (λ (z : ℤ). adds_of z level) (to_z-of_z {w = w16} (sfits_of c.adds1-arg-1.given)))))
+-- samples by their numbers
+by_numbers : {A : Type 0} {number : A → ℕ} {samples : List A → List ℕ} (lists : (xs : List A) → samples xs ≡ map number xs) (n : ℕ) (f : ℕ → ℕ) (xs : List A)
+    → length xs ≡ n → ((k : ℕ) (other : A) → k < n → number (get_or xs k other) ≡ f k) → samples xs ≡ tab n f
+by_numbers {A} {number} {samples} lists n f xs l h =
+    list_tab n (samples xs) 0 (samples_length lists xs ∙ l) ∙ tab_ext n (λ k i. let e = some xs k (omega arith) in samples_at lists xs k e (omega arith) ∙ h k e i)
+  where
+    some : (ys : List A) (k : ℕ) → k < length ys → A
+    some [] k i = absurd (omega arith)
+    some (y ∷ ys) k i = y
 
 pub returns : goal.returns
 returns g c =
     let ten = is_ten g.S.Sample.depth in
     let v = c.args.v in
-    filled_done 64 (at ten (back w16 c.args.level) v) (g.S.Sample.samples c.loop-i.p) c.loop-i.i (omega arith) c.loop-i.invariant
-    ∙ ap (λ (z : ℤ). tab 64 (at ten z v)) (to_z-of_z c.ranges.level)
+    let at = λ (z : ℤ) (i : ℕ). sample_of ten (adds_of (lane v i) z) in
+    by_numbers g.met.S.Sample.lists 64 (at (back w16 c.args.level)) c.each.result (search rules) c.each.ensures
+    ∙ ap (λ (z : ℤ). tab 64 (at z)) (to_z-of_z c.ranges.level)
     ∙ level_samples ten c.args.level v

@@ -8,10 +8,12 @@ use lib.IntN.{ℤ, pos}
 use lib.Dec.{ltb}
 use lib.ListN.{length, take}
 use lib.Seq.{ext_get_or, get_or-take, length-take-le, length-sets}
+use borrow.Author.Count.{below_more}
 use borrow.Author.Tests.{ltb-true, ltb-false}
 use Rattle.scalar.specs.Tab.{tab, lane}
 use Rattle.scalar.proofs.Fill.{Filled, length_tab, get_d_tab, tab_ext, filled_done}
 use Rattle.lanes.specs.rows.Block.{row_of, put_of, in_rows, block_of}
+use Rattle.lanes.proofs.Elements.{by_elements}
 use Rattle.lanes.proofs.rows.Stored.{stored_at, stored_before}
 
 -- lane k of row r
@@ -33,6 +35,24 @@ put_before b r x i h = stored_before (tab 8 (lane x)) b (8 * r) i (pos 0) h
 pub length_put : (b : List ℤ) (r : ℕ) (x : List ℤ) → length (put_of b r x) ≡ length b
 unfolding put_of
 length_put b r x = length-sets b (8 * r) (tab 8 (lane x))
+
+-- row r once x is put there, and the rows before it
+pub row_put : (b : List ℤ) (r : ℕ) (x : List ℤ) → r < 8 → length b ≡ 64 → length x ≡ 8 → row_of (put_of b r x) r ≡ x
+unfolding row_of
+row_put b r x h s e =
+    sym (by_elements (pos 0) 8 x e (λ k l. sym (put_same b r x (8 * r + k) h s (omega arith) ∙ ap (lane x) (omega arith))))
+
+pub row_kept : (b : List ℤ) (r : ℕ) (x : List ℤ) (j : ℕ) → j < r → row_of (put_of b r x) j ≡ row_of b j
+unfolding row_of
+row_kept b r x j h = tab_ext 8 (λ k l. put_before b r x (8 * j + k) (omega arith))
+
+-- what held of the rows before r, and holds of x, holds of the rows up to r once x is put there
+pub rows_next : (P : ℕ → List ℤ → Type 0) (b : List ℤ) {b' x : List ℤ} (r : ℕ) → r < 8 → length b ≡ 64 → length x ≡ 8 → b' ≡ put_of b r x
+    → ((j : ℕ) → j < r → P j (row_of b j)) → P r x → (j : ℕ) → j < r + 1 → P j (row_of b' j)
+rows_next P b {b'} {x} r h s e q i p =
+    below_more (λ j. P j (row_of b' j)) r
+    (λ j l. rw (q, row_kept b r x j l) (i j l))
+    (rw (q, row_put b r x h s e) p)
 
 -- filled up to a place, place by place
 filled_at : (f : ℕ → ℤ) (b : List ℤ) (n i : ℕ) → i < n → Filled 64 f b n → lane b i ≡ f i
@@ -109,3 +129,12 @@ module _ (g : ℕ → List ℤ) where
       (λ i l.
       let p : 8 * (i / 8) + i % 8 ≡ i = omega arith in
       h (i / 8) (i % 8) (omega arith) (omega arith) ∙ ap f p)
+
+-- a block by its rows
+pub by_rows : (b : List ℤ) (g : ℕ → List ℤ) → length b ≡ 64 → ((r : ℕ) → r < 8 → row_of b r ≡ g r) → b ≡ block_of g
+unfolding block_of
+by_rows b g s h =
+    by_elements (pos 0) 64 b s
+    (λ i l.
+    let p : 8 * (i / 8) + i % 8 ≡ i = omega arith in
+    sym (row_at_lem b (i / 8) (i % 8) (omega arith) ∙ ap (lane b) p) ∙ ap (λ (x : List ℤ). lane x (i % 8)) (h (i / 8) (omega arith)))

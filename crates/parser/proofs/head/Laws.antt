@@ -26,9 +26,6 @@ format_small f = go (eqb (byte_at f 0) 3) refl
 
 -- after the header, still in the frame
 module _ (f : List ℕ) {at : ℕ} (e : at ≡ format_at f) where
-  pub header_fits : Fits w64 (at + 3)
-  header_fits = omega (arith, format_small f)
-
   pub begins_inside : 5 ≤ length f → at + 3 ≤ length f
   begins_inside k = omega (arith, format_small f)
 
@@ -47,7 +44,3 @@ module _ (w h : ℕ) (f : List ℕ) where
       go false x b y = absurd (let z = rw x at e in omega arith)
       go true x false y = absurd (let z = rw (x, y) at e in omega arith)
       go true x true y = record { wide = (sized w h x).wide; high = (sized w h x).high; five = leb-true 5 (length f) y }
-
--- no number above 0
-pub none_is : {n m : ℕ} → n ≡ m → n ≤ 0 → m ≡ 0
-none_is e h = omega arith

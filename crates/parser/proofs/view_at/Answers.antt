@@ -2,7 +2,7 @@
 use mathlib.Core.Path.{refl, sym, ◌∙◌}
 use Rattle.ask.proofs.Asked.{exit}
 use Rattle.layout.specs.Views.{is_ac}
-use Rattle.parser.proofs.Laws.{frame_no, dc_no, dc_only, ac_no, ac_too, dc_walk, ac_walk, nth_from, dc_nth, ac_nth, view_no, dc_wanted, ac_wanted, ac_missing}
+use Rattle.parser.proofs.Laws.{frame_no, dc_only, dc_walk, nth_from, dc_nth, view_no, dc_wanted, ac_missing}
 use Rattle.parser.proofs.view_at.Goals as goal
 
 pub returns-in_err-size-clause-view : goal.returns-in_err-size-clause-view
@@ -10,50 +10,6 @@ returns-in_err-size-clause-view c =
     let a = c.args in
     exit _ c.from_residual.result _ c.from_residual.ensures.1
     (sym (view_no a.width a.height a.frame.now (is_ac a.kind) a.slice (sym (frame_no a.width a.height a.frame.now _ c.in_err-size.ensures.asked))))
-
-pub returns-in_err-dc-clause-view : goal.returns-in_err-dc-clause-view
-returns-in_err-dc-clause-view c =
-    let a = c.args in
-    let l = c.in_ok-size.ensures.legal in
-    let none = sym c.in_ok-size.ensures.asked in
-    let dc_is = dc_walk a.width a.height a.frame.now l.0 l.1 c.slice_count-slices.ensures c.max_dc_len-max_dc_len.ensures c.format_at-start.ensures c.in_err-dc.ensures.after in
-    exit _ c.from_residual-in_err-dc.result _ c.from_residual-in_err-dc.ensures.1
-    (sym (view_no a.width a.height a.frame.now (is_ac a.kind) a.slice (dc_no a.width a.height a.frame.now none (sym dc_is))))
-
-pub returns-in_err-ac-clause-view : goal.returns-in_err-ac-clause-view
-returns-in_err-ac-clause-view c =
-    let a = c.args in
-    let l = c.in_ok-size.ensures.legal in
-    let none = sym c.in_ok-size.ensures.asked in
-    let dc_is = dc_walk a.width a.height a.frame.now l.0 l.1 c.slice_count-slices.ensures c.max_dc_len-max_dc_len.ensures c.format_at-start.ensures c.in_ok-dc.ensures.after in
-    let ac_is = ac_walk a.width a.height a.frame.now c.in_ok-dc.q l.0 l.1 c.slice_count-slices.ensures c.max_ac_len-max_ac_len.ensures c.in_err-ac.ensures.after in
-    exit _ c.from_residual-in_err-ac.result _ c.from_residual-in_err-ac.ensures.1
-    (sym
-    (view_no a.width a.height a.frame.now (is_ac a.kind) a.slice (ac_no a.width a.height a.frame.now none (sym dc_is) c.if-q-frame.true (sym ac_is))))
-
-pub returns-in-Dc-clause-view : goal.returns-in-Dc-clause-view
-returns-in-Dc-clause-view c =
-    let a = c.args in
-    let l = c.in_ok-size.ensures.legal in
-    let none = sym c.in_ok-size.ensures.asked in
-    let dc_is = dc_walk a.width a.height a.frame.now l.0 l.1 c.slice_count-slices.ensures c.max_dc_len-max_dc_len.ensures c.format_at-start.ensures c.in_ok-dc.ensures.after in
-    let ac_is = ac_walk a.width a.height a.frame.now c.in_ok-dc.q l.0 l.1 c.slice_count-slices.ensures c.max_ac_len-max_ac_len.ensures c.in_ok-ac.ensures.after in
-    let with_ac = ac_too a.width a.height a.frame.now none (sym dc_is) c.if-q-frame.true (sym ac_is) in
-    c.part_at.ensures.view
-    ∙ dc_wanted a.width a.height a.frame.now a.slice l.1 c.slice_count-slices.ensures with_ac c.in-Dc.is
-    (λ k. dc_nth a.width a.height a.frame.now a.slice l.0 c.max_dc_len-max_dc_len.ensures c.format_at-start.ensures (nth_from a.slice _ a.frame.now _ ((c.in_ok-dc.ensures.noted k))))
-
-pub returns-in-Ac-clause-view : goal.returns-in-Ac-clause-view
-returns-in-Ac-clause-view c =
-    let a = c.args in
-    let l = c.in_ok-size.ensures.legal in
-    let none = sym c.in_ok-size.ensures.asked in
-    let dc_is = dc_walk a.width a.height a.frame.now l.0 l.1 c.slice_count-slices.ensures c.max_dc_len-max_dc_len.ensures c.format_at-start.ensures c.in_ok-dc.ensures.after in
-    let ac_is = ac_walk a.width a.height a.frame.now c.in_ok-dc.q l.0 l.1 c.slice_count-slices.ensures c.max_ac_len-max_ac_len.ensures c.in_ok-ac.ensures.after in
-    let with_ac = ac_too a.width a.height a.frame.now none (sym dc_is) c.if-q-frame.true (sym ac_is) in
-    c.part_at-in-Ac.ensures.view
-    ∙ ac_wanted a.width a.height a.frame.now a.slice l.1 c.slice_count-slices.ensures with_ac c.in-Ac.is refl
-    (λ k. ac_nth a.width a.height a.frame.now a.slice c.in_ok-dc.q l.0 c.max_ac_len-max_ac_len.ensures (nth_from a.slice _ a.frame.now _ (c.in_ok-ac.ensures.noted k)) (sym dc_is))
 
 pub returns-in-Dc-kind-clause-view : goal.returns-in-Dc-kind-clause-view
 returns-in-Dc-kind-clause-view c =

@@ -1,11 +1,12 @@
 -- What the questions of the block report leave, and the answer that they lead to.
-use mathlib.Core.Path.{◌≡◌, refl, sym, ap}
+use mathlib.Core.Path.{◌≡◌, refl, sym, ap, ◌∙◌}
 use mathlib.Core.Bool.{◌&&◌}
-use mathlib.Core.List.{List}
-use Prim.Native.Nat.{ℕ, zero, suc, ◌*◌, ◌/◌, ◌≤◌, ◌<◌}
+use mathlib.Core.List.{List, ◌++◌, append_assoc}
+use Prim.Native.Nat.{ℕ, zero, suc, ◌+◌, ◌*◌, ◌/◌, ◌≤◌, ◌<◌}
 use native.Mathlib.Omega.{arith}
 use lib.Dec.{leb}
-use lib.ListN.{length}
+use lib.ListN.{length, take, drop, length-append, length-drop, take-append-drop}
+use Rattle.std.proofs.lemmas.List.{drop-append-le}
 use borrow.Author.Tests.{leb-true}
 use Rattle.ask.specs.Ask.{refused, accepted, first_no}
 use Rattle.ask.specs.Numbers.{no_code}
@@ -42,6 +43,16 @@ yes stride report bytes at e =
       room = leb-true (stride / 4) (length report) q5.0;
       start = leb-true at start_max (left_yes (start_ok at) (ac_read_ok bytes) q7.0);
     }
+
+-- bytes laid into a front part, with what lies behind it
+pub front_laid : (l : List ℕ) (n : ℕ) (xs k : List ℕ) → n ≤ length l → k ≡ lay (take n l) 0 xs → length k ≡ length (take n l) → k ++ drop n l ≡ lay l 0 xs
+unfolding lay
+front_laid l n xs k h e f =
+    let q = 0 + length xs in
+    let g : length k ≡ length (xs ++ drop q (take n l)) = ap length e in
+    let m : q ≤ length (take n l) = omega (arith, g, f, length-append xs (drop q (take n l)), length-drop q (take n l)) in
+    ap (λ (x : List ℕ). x ++ drop n l) e ∙ append_assoc xs (drop q (take n l)) (drop n l)
+    ∙ ap (λ (x : List ℕ). xs ++ x) (sym (drop-append-le q (take n l) (drop n l) m) ∙ ap (drop q) (take-append-drop n l))
 
 -- ---- the answer
 by_number_lem : (m at : ℕ) (report : List ℕ) (x : Blocks) {n : ℕ} → n ≡ m → 0 < n → record { number = n; at = at; report = report } ≡ reported_by m at report x

@@ -19,7 +19,7 @@ use Rattle.preview.specs.row.Row.{RowDone, Stored}
 use Rattle.preview.specs.declared.row.RowEnd.{RowEnd}
 use Rattle.blockread.proofs.dc.Steps.{none_bytes}
 use Rattle.acread.specs.through.Codes.{good_steps, dc_bit, in_bytes}
-use Rattle.acread.proofs.through.Codes.{good_by, none_bit}
+use Rattle.acread.proofs.through.Codes.{good_by, first_good, none_bit}
 
 -- the bytes in the two forms
 byte_is : (place : ℕ) → preview_byte place ≡ byte_of (level eight place)
@@ -37,6 +37,12 @@ module _ (shift place w : ℕ) (upper lower dc : List ℕ) (at : ℕ) (good : go
   good_both : good_steps (read_steps (w + w) (bit_at dc) p) ≡ true
   good_both = ap₂ (λ (n m : ℕ). good_steps (read_steps n (bit_at dc) m)) (sym twice) h ∙ good
 
+  pub good_upper : good_steps (read_steps w (bit_at dc) p) ≡ true
+  good_upper = first_good w w (bit_at dc) p good_both
+
+  pub good_below : {r : RowEnd} {u : List ℕ} → RowDone dc shift (level eight place) w p (pos 0) upper u r → good_steps (read_steps w (bit_at dc) r.c.pos) ≡ true
+  good_below {r} a = good_by (read_steps (w + w) (bit_at dc) p) (read_steps w (bit_at dc) r.c.pos) (a.ends w good_both) good_both
+
   module _ {u v : List ℕ} {r t : RowEnd} (a : RowDone dc shift (level eight place) w p (pos 0) upper u r)
       (b : RowDone dc shift (level eight place) w r.c.pos r.last lower v t) where
     none : w ≡ w + 0
@@ -44,8 +50,7 @@ module _ (shift place w : ℕ) (upper lower dc : List ℕ) (at : ℕ) (good : go
 
     good_lower : good_steps (read_steps (w + 0) (bit_at dc) r.c.pos) ≡ true
     good_lower =
-        ap (λ (n : ℕ). good_steps (read_steps n (bit_at dc) r.c.pos)) (sym none)
-        ∙ good_by (read_steps (w + w) (bit_at dc) p) (read_steps w (bit_at dc) r.c.pos) (a.ends w good_both) good_both
+        ap (λ (n : ℕ). good_steps (read_steps n (bit_at dc) r.c.pos)) (sym none) ∙ good_below a
 
     joined : preview_bytes shift place (2 * w) (step_list (read_steps (2 * w) (bit_at dc) (8 * at))) ≡ a.bytes ++ (b.bytes ++ [])
     joined =

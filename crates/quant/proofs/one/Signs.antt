@@ -17,10 +17,6 @@ pub magnitude_small : (x : ℤ) → SFits w16 x → nat_abs x ≤ 32768
 magnitude_small (pos n) h = let k : n < 32768 = h.sfits in omega arith
 magnitude_small (negsuc n) h = let k : n < 32768 = h.sfits in omega arith
 
-pub magnitude_fits : (x : ℤ) → nat_abs x ≤ 32767 → SFits w16 x
-magnitude_fits (pos n) h = sfits_of (omega arith)
-magnitude_fits (negsuc n) h = sfits_of (omega arith)
-
 -- the bits of the absolute value, read as unsigned, are the magnitude
 pub abs_bits : (x : ℤ) → SFits w16 x → of_z w16 (abs_of x) ≡ nat_abs x
 unfolding abs_of wrap16

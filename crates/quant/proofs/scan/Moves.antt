@@ -1,33 +1,12 @@
 -- Four moves at a time make the scan.
 use mathlib.Core.Path.{◌≡◌, refl, ap, ◌∙◌}
-use mathlib.Core.List.{List, [], ◌∷◌}
-use Prim.Native.Nat.{ℕ, suc, ◌+◌}
-use native.Mathlib.Omega.{arith}
+use mathlib.Core.List.{List}
 use lib.IntN.{ℤ, pos}
-use lib.ListN.{set, replicate}
+use lib.ListN.{replicate}
 use lib.Seq.{sets}
-use mir.Syntax.{w16}
-use mir.Val.{SFits}
-use mir.Facts.{to_z-of_z}
-use Rattle.scalar.proofs.Laws.{back}
 use Rattle.scalar.specs.Tab.{tab_from}
 use Rattle.tables.specs.Zigzag.{zigzag}
-use Rattle.quant.specs.scan.Scan.{coefficient, four_of, scan_of}
-
-four_sets : (l : List ℤ) (at : ℕ) {a0 a1 a2 a3 b0 b1 b2 b3 : ℤ} → b0 ≡ a0 → b1 ≡ a1 → b2 ≡ a2 → b3 ≡ a3
-    → set (set (set (set l at b0) (at + 1) b1) (at + 2) b2) (at + 3) b3 ≡ sets l at (a0 ∷ a1 ∷ a2 ∷ a3 ∷ [])
-four_sets l at e0 e1 e2 e3 =
-    let p1 : at + 1 ≡ suc at = omega arith in
-    let p2 : at + 2 ≡ suc (suc at) = omega arith in
-    let p3 : at + 3 ≡ suc (suc (suc at)) = omega arith in
-    rw (p1, p2, p3, e0, e1, e2, e3) refl
-
--- the same, each value read back from its bits
-pub four_moved : (l n : List ℤ) (at i0 i1 i2 i3 : ℕ)
-    → SFits w16 (coefficient n i0) → SFits w16 (coefficient n i1) → SFits w16 (coefficient n i2) → SFits w16 (coefficient n i3)
-    → set (set (set (set l at (back w16 (coefficient n i0))) (at + 1) (back w16 (coefficient n i1))) (at + 2) (back w16 (coefficient n i2))) (at + 3) (back w16 (coefficient n i3))
-    ≡ sets l at (four_of n i0 i1 i2 i3)
-four_moved l n at i0 i1 i2 i3 h0 h1 h2 h3 = four_sets l at (to_z-of_z h0) (to_z-of_z h1) (to_z-of_z h2) (to_z-of_z h3)
+use Rattle.quant.specs.scan.Scan.{four_of, scan_of}
 
 -- sixteen times four
 rows : (n : List ℤ) →

@@ -7,6 +7,7 @@ use native.Mathlib.Omega.{arith}
 use lib.ListN.{length, take, get_or}
 use Rattle.std.specs.List.{list_all, zip, sum_by}
 use Rattle.std.proofs.lemmas.List.Sums.{sum_by-cons}
+use Rattle.std.proofs.lemmas.List.{length-take}
 use Rattle.questions.specs.four.Firsts.{of_four, all_of, sum_of}
 
 all_map : {A : Type 0} (g : A → Bool) (n : ℕ) (xs : List A) → list_all g (take n xs) ≡ all_of (take n (map g xs))
@@ -57,10 +58,5 @@ sum_map (suc n) (x ∷ xs) = sum_by-cons (λ x. x / 8) x (take n xs) ∙ ap (λ 
 pub sum_four : (n : ℕ) (xs : List ℕ) → length xs ≡ 4 → sum_by (λ x. x / 8) (take n xs) ≡ sum_of (take n (of_four (λ k. get_or xs k 0 / 8)))
 sum_four n xs e = sum_map n xs ∙ ap (λ (l : List ℕ). sum_of (take n l)) (map_four (λ x. x / 8) xs e)
 
-take_le : {A : Type 0} (n : ℕ) (xs : List A) → length (take n xs) ≤ length xs
-take_le zero xs = omega arith
-take_le (suc n) [] = omega arith
-take_le (suc n) (x ∷ xs) = omega (arith, take_le n xs)
-
 pub take_few : (n : ℕ) (xs : List ℕ) → length xs ≡ 4 → length (take n xs) ≤ 4
-take_few n xs e = omega (arith, take_le n xs)
+take_few n xs e = omega (arith, length-take n xs)

@@ -17,6 +17,7 @@ use Rattle.calls.specs.Questions.{strides_ok, lengths_at_most, together, plane_s
 use Rattle.calls.specs.Previews.{plane_size, slice_size, lengths_of_all, of_stride, first_of_four}
 use Rattle.calls.proofs.Legal.{stride_legal}
 use Rattle.slice.specs.Room.{room_for_all}
+use Rattle.std.proofs.lemmas.List.{length-take}
 use Rattle.questions.specs.four.Firsts.{all_of, sum_of}
 use Rattle.questions.specs.order.Order.{room_of}
 use Rattle.questions.specs.of_call.Numbers.{columns_in}
@@ -43,11 +44,6 @@ module _ (stride : ℕ) where
   plane_columns h = omega (arith, (stride_legal stride (passed (stride_ok stride) 3 [] (sym h)).0).stride_le)
 
 -- ---- a slice
-take_le : (n : ℕ) (ps : List Plane) → length (take n ps) ≤ length ps
-take_le zero ps = omega arith
-take_le (suc n) [] = omega arith
-take_le (suc n) (p ∷ ps) = omega (arith, take_le n ps)
-
 lengths_room : (ps : List Plane) → room_for_all (settings eight 0 0) ps ≡ lengths_of_all ps
 lengths_room [] = refl
 lengths_room (p ∷ ps) = ap (together (lengths_at_most p.stride)) (lengths_room ps)
@@ -81,4 +77,4 @@ module _ (n s0 s1 s2 s3 : ℕ) where
         ∙ sym (asked_yes questions (accepted (lengths_of_all (first_of_four n s0 s1 s2 s3))) h)
 
     pub slice_columns : 0 ≡ first_no questions → k ≤ 3840
-    slice_columns h = omega (arith, g ∙ columns, columns_le (first_of_four n s0 s1 s2 s3) (strides_good h), take_le n four)
+    slice_columns h = omega (arith, g ∙ columns, columns_le (first_of_four n s0 s1 s2 s3) (strides_good h), length-take n four)

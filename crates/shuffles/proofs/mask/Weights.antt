@@ -5,7 +5,6 @@ use Prim.Native.Nat.{ℕ, zero, suc, ◌+◌, ◌*◌, ◌%◌, ◌^◌, ◌<◌
 use native.Mathlib.Omega.{arith}
 use lib.IntN.{ℤ, pos, negsuc}
 use lib.ListN.{length, get_or, drop, drop_of_length-le}
-use lib.Pow.{shl_exact}
 use lib.Seq.{drop-cons}
 use Rattle.scalar.specs.Tab.{lane}
 use Rattle.scalar.proofs.Fill.{get_d_tab}
@@ -27,85 +26,10 @@ weigh_le (pos zero) w = omega arith
 weigh_le (pos (suc n)) w = omega arith
 weigh_le (negsuc n) w = omega arith
 
--- bit k of a byte
-pub bit_is : (k : ℕ) → k < 8 → 1 * 2 ^ k % 2 ^ 8 ≡ 2 ^ k
-bit_is k h = shl_exact 1 k 8 (omega arith) (omega arith) ∙ omega arith
-
 -- ---- the bytes of a block
 pub light : (z : List ℤ) → Light (weighed z)
 unfolding weighed
 light z k h = rw (get_d_tab 64 (λ (i : ℕ). flag (lane z i) * 2 ^ (i % 8)) k 0 h) (weigh_le (lane z k) (2 ^ (k % 8)))
-
--- the sum of the first two of eight bytes from p on fits a byte, of the first three, and so on
-abbrev pub SumsFit : List ℕ → ℕ → Type 0
-SumsFit f p = (get_or f p 0 + get_or f (p + 1) 0 < 256) × (get_or f p 0 + get_or f (p + 1) 0 + get_or f (p + 2) 0 < 256) × (get_or f p 0 + get_or f (p + 1) 0 + get_or f (p + 2) 0 + get_or f (p + 3) 0 < 256) × (get_or f p 0 + get_or f (p + 1) 0 + get_or f (p + 2) 0 + get_or f (p + 3) 0 + get_or f (p + 4) 0 < 256) × (get_or f p 0 + get_or f (p + 1) 0 + get_or f (p + 2) 0 + get_or f (p + 3) 0 + get_or f (p + 4) 0 + get_or f (p + 5) 0 < 256) × (get_or f p 0 + get_or f (p + 1) 0 + get_or f (p + 2) 0 + get_or f (p + 3) 0 + get_or f (p + 4) 0 + get_or f (p + 5) 0 + get_or f (p + 6) 0 < 256) × (get_or f p 0 + get_or f (p + 1) 0 + get_or f (p + 2) 0 + get_or f (p + 3) 0 + get_or f (p + 4) 0 + get_or f (p + 5) 0 + get_or f (p + 6) 0 + get_or f (p + 7) 0 < 256)
-
-module _ (f : List ℕ) (p : ℕ) (l : Light f) (e : p % 8 ≡ 0) (h : p + 8 ≤ 64) where
-  at_most : (k : ℕ) → k < 8 → get_or f (p + k) 0 ≤ 2 ^ k
-  at_most k i =
-      let q : (p + k) % 8 ≡ k = omega arith in
-      rw q at (l (p + k) (omega arith))
-
-  first_le : get_or f p 0 ≤ 1
-  first_le = rw e at (l p (omega arith))
-
-  pub eight_le : eight_from f p ≤ 255
-  eight_le =
-      omega (arith, first_le, at_most 1 (omega arith), at_most 2 (omega arith), at_most 3 (omega arith), at_most 4 (omega arith), at_most 5 (omega arith), at_most 6 (omega arith), at_most 7 (omega arith))
-
-  pub sums_fit : SumsFit f p
-  sums_fit = let k : eight_from f p ≤ 255 = eight_le in (omega arith, omega arith, omega arith, omega arith, omega arith, omega arith, omega arith)
-
--- ---- four sums put together
-
--- what `half` asks, and what it asks of `eight` for the sum from p + k on
-abbrev pub HalfFrom : List ℕ → ℕ → Type 0
-HalfFrom f p = (p % 8 ≡ 0) × (p + 32 ≤ 64) × Light f
-
-abbrev pub EightFrom : List ℕ → ℕ → Type 0
-EightFrom f p = (p % 8 ≡ 0) × (p + 8 ≤ 64) × Light f
-
-pub eight_first : (f : List ℕ) (p : ℕ) → HalfFrom f p → EightFrom f p
-eight_first f p a = let h : p + 32 ≤ 64 = a.1 in (a.0, omega arith, a.2)
-
-pub eight_later : (f : List ℕ) (p k : ℕ) → k % 8 ≡ 0 → k ≤ 24 → HalfFrom f p → EightFrom f (p + k)
-eight_later f p k d i a =
-    let e : p % 8 ≡ 0 = a.0 in
-    let h : p + 32 ≤ 64 = a.1 in
-    (omega arith, omega arith, a.2)
-
-pub place_fits : (p k : ℕ) → k ≤ 24 → p + 32 ≤ 64 → p + k < 18446744073709551616
-place_fits p k i h = omega arith
-
-pub byte_fits : (x : ℕ) → x < 256 → x < 4294967296
-byte_fits x h = omega arith
-
--- the next of the four: its place value times its sum fits, and so does what is put together with it
-pub second_fits : (s x : ℕ) → s < 256 → x < 256 → (256 * x < 4294967296) × (s + 256 * x < 4294967296) × (s + 256 * x < 65536)
-second_fits s x h i = (omega arith, omega arith, omega arith)
-
-pub third_fits : (s x : ℕ) → s < 65536 → x < 256 → (65536 * x < 4294967296) × (s + 65536 * x < 4294967296) × (s + 65536 * x < 16777216)
-third_fits s x h i = (omega arith, omega arith, omega arith)
-
-pub fourth_fits : (s x : ℕ) → s < 16777216 → x < 256 → (16777216 * x < 4294967296) × (s + 16777216 * x < 4294967296)
-fourth_fits s x h i = (omega arith, omega arith)
-
-pub put_together : (a b c d : ℕ) {x y z w : ℕ} → a ≡ x → b ≡ y → c ≡ z → d ≡ w
-    → a + 256 * b + 65536 * c + 16777216 * d ≡ x + 256 * y + 65536 * z + 16777216 * w
-put_together a b c d e f g h = omega arith
-
--- two halves put together
-pub half_wide : (x : ℕ) → x < 4294967296 → x < 18446744073709551616
-half_wide x h = omega arith
-
-pub halves_fit : (s x : ℕ) → s < 4294967296 → x < 4294967296 → (4294967296 * x < 18446744073709551616) × (s + 4294967296 * x < 18446744073709551616)
-halves_fit s x h i = (omega arith, omega arith)
-
-pub from_0 : 0 + 32 ≤ 64
-from_0 = omega arith
-
-pub from_32 : 32 + 32 ≤ 64
-from_32 = omega arith
 
 -- ---- the mask by eights
 module _ (z : List ℤ) (n : length z ≡ 64) where

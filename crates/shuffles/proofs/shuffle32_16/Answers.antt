@@ -1,54 +1,8 @@
-use mir.Syntax.{w16}
-use borrow.Author.Rules.{sfits_of}
-use mathlib.Core.Path.{refl}
-use Prim.Native.Nat.{◌-◌}
-use native.Mathlib.Omega.{arith}
-use Rattle.scalar.specs.Tab.{lane}
-use Rattle.scalar.proofs.Fill.{filled_done}
-use Rattle.shuffles.specs.Shuffles.{mm_shuffle_epi32_16, pair_place}
-use Rattle.shuffles.proofs.places.Places.{pair_lt}
-use Rattle.shuffles.proofs.Turns.{gather}
+use Rattle.std.proofs.Common.{rules, pos}
+use Rattle.lanes.proofs.Elements.{by_elements}
+use Rattle.shuffles.specs.Shuffles.{mm_shuffle_epi32_16}
 use Rattle.shuffles.proofs.shuffle32_16.Goals as goal
-
-pub offset_bounds-a-p : goal.offset_bounds-a-p
-offset_bounds-a-p c =
-    let l = c.before.before in
-    let a = l.before.args in
-    omega (arith, c.pair_place-p.ensures, pair_lt a.imm l.loop-k.k (omega arith))
-
-pub bounds-a-p : goal.bounds-a-p
-bounds-a-p c =
-    let l = c.before.before in
-    let a = l.before.args in
-    omega (arith, c.pair_place-p.ensures, pair_lt a.imm l.loop-k.k (omega arith))
-
-pub loop-k-preserved : goal.loop-k-preserved
-loop-k-preserved c =
-    let l = c.before.before.before in
-    let a = l.before.args in
-    gather {w = w16} 8 (pair_place a.imm) a.a l.loop-k.r l.loop-k.k (omega arith) l.loop-k.invariant (sfits_of c.r-1.given) c.before.pair_place-p.ensures
 
 pub returns : goal.returns
 unfolding mm_shuffle_epi32_16
-returns c =
-    let l = c.before in
-    let a = l.before.args in
-    filled_done 8 (λ i. lane a.a (pair_place a.imm i)) l.loop-k.r l.loop-k.k (omega arith) l.loop-k.invariant
-
-pub loop-k-init : goal.loop-k-init
-loop-k-init c = (omega arith, (refl, refl))
-
-pub pair_place-p-requires : goal.pair_place-p-requires
-pair_place-p-requires c = omega arith
-
-pub offset_bounds-r-k : goal.offset_bounds-r-k
-offset_bounds-r-k c = omega arith
-
-pub bounds-r-k : goal.bounds-r-k
-bounds-r-k c = omega arith
-
-pub overflow_step-k : goal.overflow_step-k
-overflow_step-k c = omega arith
-
-pub loop-k-smaller : goal.loop-k-smaller
-loop-k-smaller c = omega arith
+returns c = by_elements (pos 0) 8 c.each.result (search rules) (λ k h. let m = c.each.ensures k (pos 0) h in search rules)

@@ -1,16 +1,13 @@
 -- Answers of the published Rust, on the definitions: planes of both depths coded and read, and bytes that no coder wrote.
 use mathlib.Core.Path.{◌≡◌, refl}
-use mathlib.Core.Bool.{Bool, true, false}
-use mathlib.Core.List.{List, [], ◌∷◌, ◌++◌, map}
-use Prim.Native.Nat.{ℕ, zero, suc, ◌+◌, ◌*◌, ◌/◌, ◌%◌}
-use lib.IntN.{ℤ, pos, negsuc}
-use lib.ListN.{replicate, length}
+use mathlib.Core.List.{[], ◌∷◌}
+use Prim.Native.Nat.{ℕ, ◌+◌, ◌*◌, ◌/◌, ◌%◌}
+use lib.ListN.{replicate}
 use Rattle.scalar.specs.Scalar.{sat16, wrap16, wrap32, adds_of, subs_of, add_of, mulhi_of, mullo_of, sra_of, sll_of, or_of, packus_of}
 use Rattle.scalar.specs.Tab.{tab, tab_from}
 use Rattle.bits.specs.Bits.{bits_of, halvings, bit_length, spread, value_code, run_code, num, bit_at, to_bytes, pad_to_byte}
 use Rattle.bits.specs.Signed.{code_of, signed_of}
 use Rattle.bits.specs.Read.{zeros, tail_at, read_tail, read_symbol, read_dc}
-use Rattle.bits.specs.Lay.{lay}
 use Rattle.ask.specs.Ask.{first_no}
 use Rattle.tables.specs.Divisor.{base_matrix, quality_factors, divisor}
 use Rattle.tables.specs.Zigzag.{zigzag, unzigzag}
@@ -24,13 +21,12 @@ use Rattle.idct.specs.columns.Columns as columns
 use Rattle.idct.specs.Inverse.{inverse_of, samples_of}
 use Rattle.paint.specs.Paint.{over}
 use Rattle.paint.specs.Samples.{ten_of, flat_sample}
-use Rattle.calls.specs.Arguments.{eight, ten, Settings, Plane, PerStream, Buffers}
+use Rattle.calls.specs.Arguments.{eight, ten, Settings, Plane, Buffers}
 use Rattle.calls.specs.Streams.{coded_dc, steps_from, step_code, step_codes, dc_stream, symbol_codes, ac_stream}
 use Rattle.calls.specs.ReadPlane.{read_places, read_blocks, read_steps, predicted, read_plane}
 use Rattle.slice.specs.Plane.{lanes_at, block_coefficients, coefficients_at, transformed, filled_flat, block_samples, reconstruct_at}
 use Rattle.calls.specs.Questions.{reading_questions}
-use Rattle.slice.specs.Calls.{own_streams, read_planes, rows_made, Decoded, decode, decode_plane}
-use Rattle.slice.specs.Room.{coding_questions}
+use Rattle.slice.specs.Calls.{own_streams, read_planes, rows_made, decode, decode_plane}
 
 -- ---- 8-bit, stride 8, place 1, preset 12, shift 2
 σ8 : Settings

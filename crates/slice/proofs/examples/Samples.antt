@@ -1,21 +1,20 @@
 -- All entries of document 01 that are marked with a dot, in one table, by one proof over it.
 use mathlib.Core.Path.{◌≡◌, refl}
 use mathlib.Core.Bool.{Bool, true, false}
-use mathlib.Core.List.{List, [], ◌∷◌, ◌++◌, map}
-use Prim.Native.Nat.{ℕ, zero, suc}
+use mathlib.Core.List.{List, [], ◌∷◌, ◌++◌}
+use Prim.Native.Nat.{ℕ}
 use lib.IntN.{ℤ, pos, negsuc}
-use lib.ListN.{replicate, length}
+use lib.ListN.{replicate}
 use Rattle.scalar.specs.Scalar.{sat16, wrap16, wrap32, adds_of, subs_of, add_of, mulhi_of, mullo_of, sra_of, sll_of, or_of, packus_of}
 use Rattle.scalar.specs.Tab.{tab_from}
 use Rattle.bits.specs.Bits.{bits_of, halvings, bit_length, spread, value_code, run_code, num, bit_at, to_bytes, pad_to_byte}
 use Rattle.bits.specs.Signed.{code_of, signed_of}
 use Rattle.bits.specs.Read.{zeros, tail_at, read_tail, read_symbol, DcCode, bad_dc, zero_step, step, read_dc}
-use Rattle.bits.specs.Lay.{lay}
 use Rattle.ask.specs.Ask.{first_no}
 use lib.Count.{count_leading_zeros}
 use Rattle.tables.specs.Divisor.{base_matrix, quality_factors, divisor}
 use Rattle.tables.specs.Reciprocal.{shift_of, correction_of, reciprocal_of, scale_of}
-use Rattle.tables.specs.Quality.{Chosen, choose_from, quality_preset}
+use Rattle.tables.specs.Quality.{choose_from, quality_preset}
 use Rattle.calls.specs.Previews.{preview_byte}
 use Rattle.tables.specs.Zigzag.{zigzag, unzigzag}
 use Rattle.quant.specs.Quantise.{with_sign, rounded_division, quantise_of, scan_of, natural_of, dequantised, dequantise_by}
@@ -28,13 +27,12 @@ use Rattle.idct.specs.columns.Columns as columns
 use Rattle.idct.specs.Inverse.{inverse_of, samples_of}
 use Rattle.paint.specs.Paint.{over}
 use Rattle.paint.specs.Samples.{flat_sample}
-use Rattle.calls.specs.Arguments.{eight, Settings, Plane, PerStream, Buffers}
+use Rattle.calls.specs.Arguments.{eight, Settings, Plane, Buffers}
 use Rattle.calls.specs.Streams.{coded_dc, steps_from, step_code, step_codes, dc_stream, symbol_codes, ac_stream}
 use Rattle.calls.specs.ReadPlane.{read_places, read_blocks, read_steps, predicted, read_plane}
 use Rattle.slice.specs.Plane.{lanes_at, block_coefficients, coefficients_at, transformed, filled_flat, block_samples, reconstruct_at}
 use Rattle.calls.specs.Questions.{reading_questions}
-use Rattle.slice.specs.Calls.{own_streams, read_planes, rows_made, Decoded, decode, decode_plane}
-use Rattle.slice.specs.Room.{coding_questions}
+use Rattle.slice.specs.Calls.{own_streams, read_planes, rows_made, decode, decode_plane}
 
 -- an 8-bit plane, stride 8, all samples the same
 all : ℕ → ℕ → Plane

@@ -1,8 +1,8 @@
 -- The conditions of demand 3 can be met: a plane, a call refused at another preset, a slice; reading them back with bytes appended, a refused call between.
 use mathlib.Core.Path.{◌≡◌, refl}
-use mathlib.Core.List.{List, [], ◌∷◌, ◌++◌, map}
-use Prim.Native.Nat.{ℕ, zero, suc}
-use lib.ListN.{replicate, length, take, drop}
+use mathlib.Core.List.{List, [], ◌∷◌}
+use Prim.Native.Nat.{ℕ}
+use lib.ListN.{replicate, length}
 use Rattle.scalar.specs.Scalar.{sat16, wrap16, wrap32, adds_of, subs_of, add_of, mulhi_of, sra_of, sll_of, or_of}
 use Rattle.scalar.specs.Tab.{tab_from}
 use Rattle.bits.specs.Bits.{bits_of, halvings, bit_length, spread, value_code, run_code, num, bit_at, to_bytes, pad_to_byte}
@@ -22,7 +22,7 @@ use Rattle.calls.specs.ReadPlane.{read_places, read_blocks, read_steps, predicte
 use Rattle.slice.specs.Plane.{lanes_at, block_coefficients, coefficients_at}
 use Rattle.calls.specs.Questions.{reading_questions}
 use Rattle.slice.specs.Calls.{own_streams, encode, read_planes, decode}
-use Rattle.slice.specs.CallLists.{empty_book, book_number, planes_coded, OneSetting, Follows, blocks_read}
+use Rattle.slice.specs.CallLists.{empty_book, book_number, planes_coded, OneSetting, Follows}
 use Rattle.slice.specs.Demand3.{fed, planes, read_from, ReadingHalf}
 use Rattle.slice.proofs.Runs.{encode_all, decode_all, encode_runs, decode_runs}
 use Rattle.slice.proofs.Demand3.{of_definitions}

@@ -32,7 +32,7 @@ streams_short zero limit f p {q} h e = let g : p ≡ q = cc in omega arith
 streams_short (suc n) limit f p {q} h e = by (one_stream limit f p) refl (λ s x. streams_short n limit f s h x)
   where
     by : (a : Answer ℕ) → one_stream limit f p ≡ a → ((s : ℕ) → streams n limit f s ≡ accepted q → q ≤ s + n * (ac_read_max + 4)) → q ≤ p + suc n * (ac_read_max + 4)
-    by (refused m) x next = absurd (let z : ◌≡◌ {A = ℕ} 0 1 = cc (rw x at e) in omega arith)
+    by (refused m) x next = absurd (cc (rw x at e))
     by (accepted s) x next = omega (arith, next s (rw x at e), one_end limit f p x, one_within limit f p x)
 
 -- ---- small numbers

@@ -4,9 +4,11 @@ use mathlib.Core.List.{List, [], ◌∷◌, ◌++◌}
 use Prim.Native.Nat.{ℕ, zero, suc, ◌+◌, ◌-◌, ◌*◌, ◌≤◌, ◌<◌}
 use native.Mathlib.Omega.{arith}
 use native.Mathlib.Numerals.{add-one}
-use lib.ListN.{length, take, drop, length-append, take-append-drop}
+use lib.ListN.{length, take, drop, replicate, length-append, take-append-drop}
+use Rattle.std.proofs.lemmas.List.{replicate-append-replicate}
 use lib.Seq.{drop-drop, length-take-le}
 use Rattle.ask.specs.Ask.{Answer, refused, accepted, and_then}
+use Rattle.ask.specs.Numbers.{no_turn}
 use Rattle.bits.specs.Lay.{lay}
 use Rattle.bits.proofs.LayLaw.{lay_none, lay_lay, lay_drop}
 use Rattle.parser.specs.streams.Streams.{length_at, one_stream, streams}
@@ -47,6 +49,21 @@ pub no_view : (l : List ℕ) (i : ℕ) (view : ℕ → Answer View) → l ≡ la
 unfolding views_of
 no_view l i view = sym (lay_none l i)
 
+-- views of streams that are not there: zeros
+no_views_are : (n : ℕ) → views_of (λ _. refused no_turn) n ≡ replicate (2 * n) 0
+unfolding views_of
+no_views_are zero = refl
+no_views_are (suc n) =
+    let e : 2 * n + 2 ≡ 2 * suc n = omega arith in
+    ap (λ (l : List ℕ). l ++ (0 ∷ 0 ∷ [])) (no_views_are n) ∙ replicate-append-replicate (2 * n) 2 0 ∙ ap (λ (k : ℕ). replicate k 0) e
+
+pub zeros_laid : (l : List ℕ) (i n : ℕ) {x : List ℕ} {m : ℕ} → x ≡ replicate m 0 → m ≡ 2 * n → take i l ++ (x ++ drop (i + 2 * n - i) (drop i l)) ≡ lay l i (views_of (λ _. refused no_turn) n)
+unfolding lay
+zeros_laid l i n {x} {m} e k =
+    let j : i + (i + 2 * n - i) ≡ i + length (views_of (λ _. refused no_turn) n) = omega (arith, views_length (λ _. refused no_turn) n) in
+    ap₂ (λ (y r : List ℕ). take i l ++ (y ++ r)) (e ∙ ap (λ (h : ℕ). replicate h 0) k ∙ sym (no_views_are n))
+    (drop-drop (i + 2 * n - i) i l ∙ ap (λ (h : ℕ). drop h l) j)
+
 -- ---- numbers copied over what was stored: as if nothing had been stored
 pub over : (t : List ℕ) (i : ℕ) (xs ys : List ℕ) → i + length xs ≤ length ys → i ≤ length t → lay (lay t i xs) 0 ys ≡ lay t 0 ys
 unfolding lay
@@ -76,7 +93,7 @@ walk_suc zero limit f p {at} {q} e d = step (cc)
 walk_suc (suc k) limit f p {at} {q} e d = by (one_stream limit f p) refl (λ s x. walk_suc k limit f s x d)
   where
     by : (a : Answer ℕ) → one_stream limit f p ≡ a → ((s : ℕ) → streams k limit f s ≡ accepted at → streams (suc k) limit f s ≡ accepted q) → and_then (one_stream limit f p) (λ x. streams (suc k) limit f x) ≡ accepted q
-    by (refused m) x next = absurd (let z : ◌≡◌ {A = ℕ} 0 1 = cc (rw x at e) in omega arith)
+    by (refused m) x next = absurd (cc (rw x at e))
     by (accepted s) x next = rw x (next s (rw x at e))
 
 pub walk_on : (k limit : ℕ) (f : List ℕ) (p : ℕ) {at q : ℕ} → streams k limit f p ≡ accepted at → one_stream limit f at ≡ accepted q → streams (k + 1) limit f p ≡ accepted q

@@ -1,6 +1,5 @@
 use Rattle.std.proofs.Common.{rules}
-use mathlib.Core.Path.{sym, ◌∙◌}
-use mir.Syntax.{w16}
+use mathlib.Core.Path.{refl, sym, ◌∙◌}
 use mir.Facts.{to_z-of_z}
 use Rattle.write_block.proofs.Joined.{flat, inverse}
 use Rattle.write_block.proofs.paint.Goals as goal
@@ -9,7 +8,7 @@ pub returns-then-filled : goal.returns-then-filled
 returns-then-filled g c =
     let a = c.args in
     flat a.stride a.q.now a.v a.nat (g.S.Sample.samples a.rows.now) g.S.Sample.depth a.has_ac (sym c.filled.ensures ∙ c.if-filled.true)
-    (to_z-of_z {w = w16} (search rules)) (rw (to_z-of_z c.ranges.v) at c.broadcast_dc.ensures)
+    refl (rw (to_z-of_z c.ranges.v) at c.fill.ensures)
 
 pub returns-else-filled : goal.returns-else-filled
 returns-else-filled g c =

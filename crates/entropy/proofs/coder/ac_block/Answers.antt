@@ -14,7 +14,7 @@ use Rattle.bitwriter.specs.Pairs.{pair_code}
 use Rattle.bitwriter.specs.declared.PairCode.{PairCode}
 use Rattle.entropy.specs.block.Places.{Small}
 use Rattle.entropy.proofs.block.Codes.{code_small, code_some, small_fits}
-use Rattle.entropy.proofs.short.Laws.{pair_asks, pair_put}
+use Rattle.bitwriter.proofs.Pairs.{pair_asks, pair_put}
 use Rattle.entropy.proofs.block.Walk.{going, turn, turn_room, gone, whole, room_tail}
 use Rattle.entropy.proofs.coder.ac_block.Goals as goal
 

@@ -1,8 +1,8 @@
--- `fdct::level_shift::level` puts a row in each turn of the loop inside. Assumes nothing.
-use mathlib.Core.Path.{◌≡◌, refl, ap, ◌∙◌}
+-- `fdct::level_shift::level`: each row with the level added, lane by lane. Assumes nothing.
+use Rattle.std.proofs.Common.{rules}
+use mathlib.Core.Path.{◌≡◌, ap, ◌∙◌}
 use mathlib.Core.List.{List}
-use Prim.Native.Nat.{◌*◌}
-use native.Mathlib.Omega.{arith}
+use Prim.Native.Nat.{ℕ}
 use lib.IntN.{ℤ, pos}
 use mir.Facts.{to_z-of_z}
 use Rattle.scalar.specs.Scalar.{adds_of}
@@ -10,13 +10,16 @@ use Rattle.scalar.specs.Tab.{lane}
 use Rattle.scalar.proofs.Fill.{get_d_tab}
 use Rattle.lanes.specs.Lanes.{mm_set1_epi16, mm_adds_epi16}
 use Rattle.lanes.specs.rows.Block.{row_of, block_of}
-use Rattle.lanes.proofs.rows.Loops.{row_at_lem, put_done, by_place, two_turn}
+use Rattle.lanes.proofs.rows.Loops.{row_at_lem, by_place, by_rows}
 use Rattle.fdct.specs.level_shift.Level.{level_at, level_shift_of}
-use Rattle.fdct.proofs.level_shift.level.Invariants.{levelled}
 use Rattle.fdct.proofs.level_shift.level.Goals as goal
 
+-- row r, the level added
+levelled : List ℤ → List ℤ → ℕ → List ℤ
+levelled b adding r = mm_adds_epi16 (row_of b r) adding
+
 level_law : (b : List ℤ) (add : ℤ) → block_of (levelled b (mm_set1_epi16 add)) ≡ level_shift_of add b
-unfolding level_shift_of mm_adds_epi16 mm_set1_epi16
+unfolding levelled level_shift_of mm_adds_epi16 mm_set1_epi16
 level_law b add =
     by_place (levelled b (mm_set1_epi16 add)) (level_at add b)
     (λ r k g h.
@@ -24,16 +27,9 @@ level_law b add =
     ∙ ap (λ (z : ℤ). adds_of z (lane (mm_set1_epi16 add) k)) (row_at_lem b r k h)
     ∙ ap (adds_of _) (get_d_tab 8 (λ i. add) k (pos 0) h))
 
-pub loop-p-init : goal.loop-p-init
-loop-p-init c = ((omega arith, (refl, refl)), c.splat-adding.ensures)
-
-pub loop-h-preserved : goal.loop-h-preserved
-loop-h-preserved c =
-    two_turn (levelled c.args.b c.splat-adding.result) c.loop-h.c c.loop-p.p c.loop-h.h c.loop-p-test.true c.loop-h-test.true c.loop-h.invariant c.put.ensures
-    (c.adds.ensures ∙ ap (λ (y : List ℤ). mm_adds_epi16 y c.splat-adding.result) c.row.ensures)
-
 pub returns : goal.returns
+unfolding levelled
 returns c =
-    put_done (levelled c.args.b c.splat-adding.result) c.loop-p.c (2 * c.loop-p.p) (omega arith) c.loop-p.invariant.0
-    ∙ ap (λ (y : List ℤ). block_of (levelled c.args.b y)) (c.loop-p.invariant.1 ∙ ap mm_set1_epi16 (to_z-of_z c.ranges.add))
+    by_rows c.each_of_two.result (levelled c.args.b c.splat-adding.result) (search rules) c.each_of_two.ensures
+    ∙ ap (λ (y : List ℤ). block_of (levelled c.args.b y)) (c.splat-adding.ensures ∙ ap mm_set1_epi16 (to_z-of_z c.ranges.add))
     ∙ level_law c.args.b c.args.add

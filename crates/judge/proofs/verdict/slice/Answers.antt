@@ -6,7 +6,7 @@ use lib.ListN.{get_or, replicate, length-replicate}
 use Rattle.std.proofs.Common.{rules}
 use Rattle.ask.specs.Ask.{first_no}
 use Rattle.ask.specs.Refusals.{number_of, given}
-use Rattle.calls.specs.Arguments.{Depth, eight, positions, buffers, PerStream, Buffers}
+use Rattle.calls.specs.Arguments.{Depth, eight, buffers, PerStream, Buffers}
 use Rattle.calls.specs.Questions.{reading_questions}
 use Rattle.calls.specs.Views.{slice_call, positions_by}
 use Rattle.calls.specs.declared.Settings.{Settings}
@@ -24,7 +24,7 @@ returns-in_err-reading_slice c = λ depth p0 p1 p2 p3 h0 h1 h2 h3.
     let g : given c.from_residual.result ≡ number_of e = search rules in
     g ∙ slice_no (lent depth a.s a.f (buffers a.dc.now a.ac.now) (positions_by a.at) p0 p1 p2 p3) e
     (c.in_err-reading_slice.ensures depth p0 p1 p2 p3 h0 h1 h2 h3
-    ∙ (λ i. first_no (reading_questions (slice_call depth a.s a.f p0 p1 p2 p3) (positions (c.of.ensures.0 i) (c.of-2.ensures.0 i)) (positions (c.of.ensures.1 i) (c.of-2.ensures.1 i)))))
+    ∙ (λ i. first_no (reading_questions (slice_call depth a.s a.f p0 p1 p2 p3) (c.of.ensures.lengths i) (c.of.ensures.starts i))))
 
 -- rows of that many samples, whatever they are
 pub slice-requires : goal.slice-requires
@@ -36,12 +36,12 @@ slice-requires c =
     let p3 : List ℕ = replicate (get_or a.rows 3 0) 0 in
     may_judge (lent eight a.s a.f (buffers a.dc.now a.ac.now) (positions_by a.at) p0 p1 p2 p3)
     (c.in_ok-reading_slice.ensures eight p0 p1 p2 p3 (length-replicate (get_or a.rows 0 0) 0) (length-replicate (get_or a.rows 1 0) 0) (length-replicate (get_or a.rows 2 0) 0) (length-replicate (get_or a.rows 3 0) 0)
-    ∙ (λ i. first_no (reading_questions (slice_call eight a.s a.f p0 p1 p2 p3) (positions (c.of.ensures.0 i) (c.of-2.ensures.0 i)) (positions (c.of.ensures.1 i) (c.of-2.ensures.1 i)))))
+    ∙ (λ i. first_no (reading_questions (slice_call eight a.s a.f p0 p1 p2 p3) (c.of.ensures.lengths i) (c.of.ensures.starts i))))
 
 pub returns : goal.returns
 returns c = λ depth p0 p1 p2 p3 h0 h1 h2 h3.
     let a = c.args in
     slice_judged (lent depth a.s a.f (buffers a.dc.now a.ac.now) (positions_by a.at) p0 p1 p2 p3) c.slice.result
     (c.in_ok-reading_slice.ensures depth p0 p1 p2 p3 h0 h1 h2 h3
-    ∙ (λ i. first_no (reading_questions (slice_call depth a.s a.f p0 p1 p2 p3) (positions (c.of.ensures.0 i) (c.of-2.ensures.0 i)) (positions (c.of.ensures.1 i) (c.of-2.ensures.1 i)))))
+    ∙ (λ i. first_no (reading_questions (slice_call depth a.s a.f p0 p1 p2 p3) (c.of.ensures.lengths i) (c.of.ensures.starts i))))
     c.slice.ensures c.ask.ensures

@@ -11,7 +11,7 @@ use Rattle.bits.specs.Lay.{lay}
 use Rattle.calls.specs.ReadPlane.{read_blocks}
 use Rattle.bitreader.specs.declared.AcCursor.{AcCursor}
 use Rattle.acread.specs.Block.{flat_byte, BlockEnded}
-use Rattle.acread.specs.Going.{LooksFrom}
+use Rattle.acread.specs.Going.{LooksIn}
 use Rattle.acread.specs.through.Through.{block_ends, good_ends, reports_of}
 use Rattle.acread.proofs.Going.{flat_ended}
 use Rattle.acread.proofs.through.Blocks.{end_at}
@@ -24,13 +24,14 @@ use Rattle.preview.proofs.report.store_blocks.Goals.{then-pending-lt64+in-Some, 
 pub returns-in_default : goal.returns-in_default
 returns-in_default c =
     let a = c.args in
-    let l = c.loop-i in
+    let l = c.loop-byte in
+    let n = length a.report.now in
     let b = c.skip_block in
-    let m = a.n - (l.i + 1) in
-    let z : a.n - l.i ≡ suc m = omega arith in
+    let m = n - (l.byte-index + 1) in
+    let z : n - l.byte-index ≡ suc m = omega arith in
     let e : b.result ≡ None = cc in
     absurd
-    (not_bad a.ac.now (8 * a.at) a.n l.c l.pending m (going_left (suc m) z l.invariant.2) b.result b.ensures e c.requires.4)
+    (not_bad a.ac.now (8 * a.at) n l.c l.pending m (going_left (suc m) z l.invariant.1) b.result b.ensures e c.requires.3)
 
 -- one block more, that ends at d
 module _ (s : List ℕ) (p n : ℕ) (c : AcCursor) (pending m left : ℕ) (z : left ≡ suc m) (i : Going s p n c pending left) (good : good_ends (block_ends (read_blocks n (bit_at s) p 0)) ≡ true)
@@ -45,32 +46,34 @@ module _ (s : List ℕ) (p n : ℕ) (c : AcCursor) (pending m left : ℕ) (z : l
         ap (λ (q : ℕ). lay l j (reports_of (read_blocks q (bit_at s) c.pos pending))) z ∙ stored s p n c pending m g o b d f good l j h w,
       )
 
-pub loop-i-preserved : goal.loop-i-preserved
-loop-i-preserved c =
+pub loop-byte-preserved : goal.loop-byte-preserved
+loop-byte-preserved c =
     let a = c.args in
-    let l = c.loop-i in
-    let m = a.n - (l.i + 1) in
-    let z : a.n - l.i ≡ suc m = omega arith in
-    let one = next a.ac.now (8 * a.at) a.n l.c l.pending m (a.n - l.i) z l.invariant.2 c.requires.4 l.report l.i (omega (arith, l.invariant.1)) c.flat.result
+    let l = c.loop-byte in
+    let n = length a.report.now in
+    let m = n - (l.byte-index + 1) in
+    let z : n - l.byte-index ≡ suc m = omega arith in
+    let one = next a.ac.now (8 * a.at) n l.c l.pending m (n - l.byte-index) z l.invariant.1 c.requires.3 l.report l.byte-index (omega (arith, l.invariant.0)) c.flat.result
     c.flat.ensures in
     elim c.if-pending-lt64.branch [
       | then-pending-lt64+in-Some w ↦
           let f : w.skip_block.result ≡ Some w.in-Some.end = cc in
           let k = one w.skip_block.result w.skip_block.ensures w.in-Some.end f c.if-pending-lt64.c c.if-pending-lt64.pending w.c-is w.pending-is in
-          (omega arith, simp length-set l.invariant.1, k.0, l.invariant.3 ∙ k.1, subst (λ (x : ℕ). LooksFrom x a.tab.now) (sym w.least-is) (w.least_after-least.ensures a.tab.now c.requires.2))
+          (simp length-set l.invariant.0, k.0, l.invariant.2 ∙ k.1, subst LooksIn (sym w.looks-is) w.table_after-looks.ensures)
       | else-pending-lt64 w ↦
           let d : BlockEnd = record { c = l.c; pending = l.pending - 64 } in
-          let k = one (Some d) (flat_ended a.ac.now l.c l.pending l.invariant.2.holds l.invariant.2.few (omega (arith, w.if-pending-lt64.false))) d refl
+          let k = one (Some d) (flat_ended a.ac.now l.c l.pending l.invariant.1.holds l.invariant.1.few (omega (arith, w.if-pending-lt64.false))) d refl
           c.if-pending-lt64.c c.if-pending-lt64.pending w.c-is w.pending-is in
-          (omega arith, simp length-set l.invariant.1, k.0, l.invariant.3 ∙ k.1, subst (λ (x : ℕ). LooksFrom x a.tab.now) (sym w.least-is) l.invariant.4)
+          (simp length-set l.invariant.0, k.0, l.invariant.2 ∙ k.1, subst LooksIn (sym w.looks-is) l.invariant.3)
     ]
 
 pub returns : goal.returns
 returns c =
     let a = c.args in
-    let l = c.loop-i in
-    let z : a.n - l.i ≡ 0 = omega arith in (
+    let l = c.loop-byte in
+    let n = length a.report.now in
+    let z : n - l.byte-index ≡ 0 = omega arith in (
       ap accepted c.end_byte.ensures
-          ∙ end_at (read_blocks a.n (bit_at a.ac.now) (8 * a.at) 0) l.c.pos l.pending (going_over a.ac.now (8 * a.at) a.n l.c l.pending (a.n - l.i) z l.invariant.2),
-      sym (l.invariant.3 ∙ stored_all a.ac.now l.c.pos l.pending (a.n - l.i) l.report l.i z),
+          ∙ end_at (read_blocks n (bit_at a.ac.now) (8 * a.at) 0) l.c.pos l.pending (going_over a.ac.now (8 * a.at) n l.c l.pending (n - l.byte-index) z l.invariant.1),
+      sym (l.invariant.2 ∙ stored_all a.ac.now l.c.pos l.pending (n - l.byte-index) l.report l.byte-index z),
     )

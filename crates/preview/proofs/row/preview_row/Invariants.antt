@@ -1,12 +1,8 @@
 -- `preview::row::preview_row`: one byte a turn; the loop carries `Row`.
 use mathlib.Core.Path.{◌≡◌}
-use Prim.Native.Nat.{◌-◌, ◌≤◌}
 use lib.ListN.{length}
 use Rattle.preview.proofs.row.Going.{Row}
 use Rattle.preview.proofs.row.preview_row.Given as goal
 
-abbrev pub invariant-loop-k : goal.invariant-loop-k
-invariant-loop-k l = (l.k ≤ l.columns) × (length l.out ≡ length l.initial.out) × Row l.dc l.shift l.level l.columns l.initial.c.pos l.prior l.initial.out l.c l.last l.k l.out
-
-abbrev pub decreases-loop-k : goal.decreases-loop-k
-decreases-loop-k l = l.columns - l.k
+abbrev pub invariant-loop-byte : goal.invariant-loop-byte
+invariant-loop-byte l = (length l.byte-items ≡ l.columns) × Row l.dc l.shift l.level l.columns l.initial.c.pos l.prior l.initial.byte-items l.c l.last l.byte-index l.byte-items

@@ -10,6 +10,6 @@ pub returns : goal.returns
 returns c =
     let a = c.args in
     λ depth samples e. c.reading.ensures
-    ∙ reading_is (plane_call depth a.s a.h samples) (lengths_by a.dc a.ac) (starts_by a.dc a.ac) c.place_ok-which.ensures
+    ∙ reading_is (plane_call depth a.s a.h samples) (lengths_by a.streams) (starts_by a.streams) c.place_ok-which.ensures
     (c.stride_ok-strides.ensures ∙ and_yes (stride_ok a.h.stride))
     (c.rows_ok-long.ensures ∙ ap (leb (rows_needed a.h.stride)) (sym e) ∙ and_yes _)

@@ -1,45 +1,28 @@
-use borrow.Author.Rules.{rules}
-use mathlib.Core.Path.{◌≡◌, sym, ◌∙◌, ap}
-use Prim.Native.Nat.{◌-◌}
-use native.Mathlib.Omega.{arith}
-use lib.ListN.{get_or}
-use Rattle.tables.specs.Quality.{Chosen, quality_preset}
-use Rattle.tables.proofs.Presets.{choice_start, chosen_at, passed_at, choice_none, factor_high}
+use Rattle.std.proofs.Common.{◌≡◌, ◌<◌, ◌≤◌, length, sym, ap, arith, rules, tests}
+use Rattle.std.proofs.lemmas.Iterator.{IsFirst-from_position, YieldsList-from_slice}
+use Rattle.tables.specs.Quality.{Chosen}
+use Rattle.tables.proofs.Presets.{factor_high, found_one, found_none}
+use Rattle.tables.proofs.quality.quality_preset.Goals.{In-Some, In-None}
 use Rattle.tables.proofs.quality.quality_preset.Goals as goal
-
-pub quality_factors-f-requires : goal.quality_factors-f-requires
-quality_factors-f-requires c = tt
-
-pub loop-i-init : goal.loop-i-init
-loop-i-init c = (search rules, choice_start _)
-
-pub overflow_add-m : goal.overflow_add-m
-overflow_add-m c =
-    let l = c.before in
-    record { fits = omega (arith, factor_high l.before.quality_factors-f.result l.loop-i.i l.before.quality_factors-f.ensures (search rules)) }
 
 pub overflow_sub-result : goal.overflow_sub-result
 overflow_sub-result c =
-    let l = c.before.before in
-    omega (arith, factor_high l.before.quality_factors-f.result l.loop-i.i l.before.quality_factors-f.ensures (search rules))
+    omega (arith, factor_high c.quality_factors-factors.result c.in-Some.index c.quality_factors-factors.ensures (search rules))
 
-pub returns-then-m-q-ge100 : goal.returns-then-m-q-ge100
-returns-then-m-q-ge100 c =
-    let l = c.before.before in
-    let q = l.before.before.args.q in
-    let e : quality_preset q ≡ record { quality = 100 - get_or l.before.quality_factors-f.result l.loop-i.i 0; index = l.loop-i.i } =
-    l.loop-i.invariant.1 ∙ chosen_at l.before.quality_factors-f.result q l.loop-i.i l.before.quality_factors-f.ensures (search rules) c.if-m-q-ge100.true in
+pub returns-in-Some : goal.returns-in-Some
+returns-in-Some c =
+    let f = c.quality_factors-factors.result in
+    let least = c.from-least.result in
+    let h = IsFirst-from_position _ _ c.position.result (λ m. least ≤ m) (λ m. m < least) c.position.ensures.ran (YieldsList-from_slice f cc) (λ x q k. search (rules, tests)) (λ x q k. search (rules, tests)) in
+    let k = rw c.in-Some.is at h in
+    let e = found_one f c.args.q least c.quality_factors-factors.ensures (search rules) c.in-Some.index k.0 k.1 k.2 in
     (sym (ap (λ (x : Chosen). x.quality) e), sym (ap (λ (x : Chosen). x.index) e))
 
-pub loop-i-preserved : goal.loop-i-preserved
-loop-i-preserved c =
-    let l = c.before.before in
-    let q = l.before.before.args.q in
-    (omega arith, l.loop-i.invariant.1 ∙ passed_at l.before.quality_factors-f.result q l.loop-i.i l.before.quality_factors-f.ensures (search rules) c.if-m-q-ge100.false)
-
-pub returns : goal.returns
-returns c =
-    let l = c.before in
-    let q = l.before.before.args.q in
-    let e : quality_preset q ≡ record { quality = q; index = 0 } = l.loop-i.invariant.1 ∙ choice_none q l.loop-i.i c.loop-i-test.false l.loop-i.invariant.0 in
+pub returns-in-None : goal.returns-in-None
+returns-in-None c =
+    let f = c.quality_factors-factors.result in
+    let least = c.from-least.result in
+    let h = IsFirst-from_position _ _ c.position.result (λ m. least ≤ m) (λ m. m < least) c.position.ensures.ran (YieldsList-from_slice f cc) (λ x q k. search (rules, tests)) (λ x q k. search (rules, tests)) in
+    let k = rw c.in-None.is at h in
+    let e = found_none f c.args.q least c.quality_factors-factors.ensures (search rules) k in
     (sym (ap (λ (x : Chosen). x.quality) e), sym (ap (λ (x : Chosen). x.index) e))

@@ -8,23 +8,8 @@ use Rattle.parser.proofs.head.Laws.{legal}
 use Rattle.parser.specs.Frame.{nth_stream}
 use Rattle.parser.proofs.Laws.{dc_no, dc_only, ac_no, ac_too, dc_walk, ac_walk}
 use Rattle.views.specs.walk.Table.{views_of}
-use Rattle.views.proofs.both.Laws.{dc_walks, ac_walks, dc_left, ac_left, none_left, no_dc, no_ac, only_dc_lem, both}
+use Rattle.views.proofs.both.Laws.{ac_walks, dc_left, ac_left, none_left, no_dc, no_ac, only_dc_lem, both}
 use Rattle.views.proofs.both.walk.Goals as goal
-
-pub format_at-start-requires : goal.format_at-start-requires
-format_at-start-requires c =
-    let a = c.args in
-    let w = a.size.width in
-    let h = a.size.height in
-    (legal w h a.frame.now c.requires.0.yes).five
-
-pub walk_views-requires : goal.walk_views-requires
-walk_views-requires c =
-    let a = c.args in
-    let w = a.size.width in
-    let h = a.size.height in
-    let l = legal w h a.frame.now c.requires.0.yes in
-    dc_walks w h a.frame.now a.table.now a.held.now l c.slice_count-slices.ensures c.requires.0.room c.requires.1.long c.max_dc_len-max_dc_len.ensures c.format_at-start.ensures
 
 pub walk_views-requires-then-q-frame : goal.walk_views-requires-then-q-frame
 walk_views-requires-then-q-frame c =
