@@ -52,7 +52,7 @@ read8-mixed-8 66
 read8-dense-0 93
 read8-dense-8 60
 read10-smooth-0 52
-read10-smooth-8 55
+read10-smooth-8 54
 read10-mixed-0 79
 read10-mixed-8 57
 read10-dense-0 86
