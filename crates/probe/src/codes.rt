@@ -83,16 +83,12 @@ pub fn write<W: Writer>(
     at: usize,
     out: &mut [u8],
 ) -> usize {
-    if runs.len() < kinds.len() || codes.len() < kinds.len() {
-        return 0;
-    }
-    let mut acc = BitAcc {
-        acc: 0,
-        nbits: 0,
-        pos: at,
-    };
+    let mut acc = BitAcc::starting_at(at);
     for ((kind, run), value) in kinds.iter().zip(runs).zip(codes) {
         acc = put::<W>(acc, W::code(*kind, *run, *value), out);
+    }
+    if runs.len() < kinds.len() || codes.len() < kinds.len() {
+        return 0;
     }
     if fits(acc, out) {
         acc = W::align(acc, out);

@@ -20,11 +20,7 @@ pub fn probe_pairs_write(runs: &[u32], codes: &[u32], at: usize, out: &mut [u8])
     if codes.len() < runs.len() || out.len() < at || (out.len() - at) / 8 < runs.len() {
         return 0;
     }
-    let mut acc = BitAcc {
-        acc: 0,
-        nbits: 0,
-        pos: at,
-    };
+    let mut acc = BitAcc::starting_at(at);
     for (run, code) in runs.iter().zip(codes) {
         if !taken(*run, *code) {
             return 0;

@@ -14,7 +14,8 @@ pub fn put(table: &mut [u32], i: usize, numbers: &[u32])
     table[i..i + numbers.len()].copy_from_slice(numbers);
 }
 
-// Stores n views of streams that are not there, from i on.
+// Stores n views of streams that are not there, from i on. Of a part that the caller cuts the contract would say what the part becomes, and
+// each caller what the table becomes by that; `lay` at i says it once.
 pub fn no_views(table: &mut [u32], i: usize, n: usize)
     requires { i + 2 * n ≤ length table.old }
     ensures { table.new ≡ lay table.old i (views_of (λ _. refused no_turn) n) }
