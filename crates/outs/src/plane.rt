@@ -34,29 +34,17 @@ pub fn positions_out(
     number
 }
 
-// Of a preview: the position after the plane's DC stream; a refusal leaves the place as it was.
-pub fn preview_out(answer: Result<usize, Refusal>, dc_at: &mut usize) -> u32
-    ensures { (upper : List ℕ) (lower : List ℕ)
-        → previewed_as result dc_at.new upper lower ≡ content (preview_says dc_at.old answer upper lower) }
+// Of a preview or a block report: the position after the plane's stream; a refusal leaves the place as it was.
+pub fn position_out(answer: Result<usize, Refusal>, at: &mut usize) -> u32
+    ensures preview { (upper : List ℕ) (lower : List ℕ)
+        → previewed_as result at.new upper lower ≡ content (preview_says at.old answer upper lower) }
+    ensures report { (bytes : List ℕ)
+        → reported_as result at.new bytes ≡ content (report_says at.old answer bytes) }
 {
     match answer {
         Err(no) => no.number(),
-        Ok(p) => {
-            *dc_at = p;
-            0
-        }
-    }
-}
-
-// Of a block report: the position after the plane's AC stream; a refusal leaves the place as it was.
-pub fn report_out(answer: Result<usize, Refusal>, ac_at: &mut usize) -> u32
-    ensures { (bytes : List ℕ)
-        → reported_as result ac_at.new bytes ≡ content (report_says ac_at.old answer bytes) }
-{
-    match answer {
-        Err(no) => no.number(),
-        Ok(q) => {
-            *ac_at = q;
+        Ok(end) => {
+            *at = end;
             0
         }
     }

@@ -24,7 +24,7 @@ pub fn vmx_preview(
     let d = *dc_at;
     let h = Shape { place, stride };
     let r = preview::preview(shift, h, upper, lower, dc, d);
-    outs::plane::preview_out(r, dc_at)
+    outs::plane::position_out(r, dc_at)
 }
 
 // One byte a block in coding order, 1 where no AC symbol is read for it, from the plane's AC stream.
@@ -34,5 +34,5 @@ pub fn vmx_block_report(stride: usize, report: &mut [u8], ac: &[u8], ac_at: &mut
 {
     let a = *ac_at;
     let r = preview::report::block_report(stride, report, ac, a);
-    outs::plane::report_out(r, ac_at)
+    outs::plane::position_out(r, ac_at)
 }
