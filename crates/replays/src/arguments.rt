@@ -69,6 +69,6 @@ impl<'a> Call<'a> {
             Ok(ends) => (Ok(()), ends),
             Err(Refused { no, start }) => (Err(no.number()), start),
         };
-        asked == self.record.answer(2, ()) && [at.dc, at.ac] == self.record.numbers(56)
+        asked == self.record.answer(2, ()) && at == self.ends()
     }
 }

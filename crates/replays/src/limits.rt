@@ -1,5 +1,6 @@
 // The questions to calls on planes and slices over numbers alone, and the size calls: no memory is lent, so lengths and starts
 // are any. A record of 144 bytes (oracle/ANSWERS.md): the call, its number, its arguments, the lengths that a size call names.
+// Its arguments are read here and not by arguments::Call, whose numbers take two bytes each where these take eight.
 use ask::Refusal;
 use calls::{Four, Settings, Shape, Stream, Streams};
 use questions::answers::Lengths;
