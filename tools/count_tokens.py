@@ -17,23 +17,23 @@ TOKEN = re.compile(r"//[^\n]*|\"(?:\\.|[^\"\\])*\"|'[a-z_]+\b(?!')|'(?:\\.|[^'])
 KEEP = {"fn", "let", "mut", "if", "else", "for", "in", "while", "loop", "match", "return", "break", "continue", "as", "impl", "where", "const", "struct", "enum", "pub", "self", "Self", "Some", "None", "Ok", "Err"}
 
 
+def closing(parts, at):
+    """Where the brace closes that opens at `at`, in a text or in a list of tokens."""
+    depth = 0
+    for j in range(at, len(parts)):
+        depth += (parts[j] == "{") - (parts[j] == "}")
+        if depth == 0:
+            return j
+    return len(parts)
+
+
 def strip_clauses(text):
     """Takes requires and ensures clauses, and ghost lines, away."""
     out, i = [], 0
     for m in re.finditer(r"^\s*(?:requires|ensures)(?: \w+)? \{", text, re.M):
-        if m.start() < i:
-            continue
-        depth, j = 0, m.end() - 1
-        while True:
-            if text[j] == "{":
-                depth += 1
-            elif text[j] == "}":
-                depth -= 1
-                if depth == 0:
-                    break
-            j += 1
-        out.append(text[i:m.start()])
-        i = j + 1
+        if m.start() >= i:
+            out.append(text[i:m.start()])
+            i = closing(text, m.end() - 1) + 1
     out.append(text[i:])
     return re.sub(r"^\s*(pub )?ghost [^\n]*\n", "", "".join(out), flags=re.M)
 
@@ -45,24 +45,15 @@ def functions():
             continue
         text = strip_clauses(path.read_text())
         toks = [t for t in TOKEN.findall(text) if not t.startswith("//")]
-        i = 0
-        while i < len(toks):
-            if toks[i] == "fn" and i + 1 < len(toks) and re.match(r"[a-z_]", toks[i + 1]):
-                j, depth, par = i + 2, 0, 0
-                while j < len(toks) and not (toks[j] == ";" and depth == 0 and par == 0):
-                    if toks[j] in "([":
-                        par += 1
-                    elif toks[j] in ")]":
-                        par -= 1
-                    elif toks[j] == "{":
-                        depth += 1
-                    elif toks[j] == "}":
-                        depth -= 1
-                        if depth == 0:
-                            break
+        for i, t in enumerate(toks[:-1]):
+            if t == "fn" and re.match(r"[a-z_]", toks[i + 1]):
+                j, open_ = i + 2, 0
+                while j < len(toks) and (open_ or toks[j] not in "{;"):
+                    open_ += (toks[j] in "([") - (toks[j] in ")]")
                     j += 1
+                if j < len(toks) and toks[j] == "{":
+                    j = closing(toks, j)
                 yield crate, str(path.relative_to(top / "crates")), toks[i + 1], toks[i:j + 1]
-            i += 1
 
 
 fs = list(functions())
@@ -128,13 +119,7 @@ for crate, file, name, toks in fs:
             j = i
             while j < len(toks) and toks[j] != "{":
                 j += 1
-            depth, k = 0, j
-            while k < len(toks):
-                depth += (toks[k] == "{") - (toks[k] == "}")
-                if depth == 0:
-                    break
-                k += 1
-            inner = " ".join(toks[j:k])
+            inner = " ".join(toks[j:closing(toks, j)])
             var = toks[i + 1] if t == "for" else ""
             indexed = bool(var and re.search(r"\[ [^\]]*\b" + re.escape(var) + r"\b", inner))
             print(f"   {file} {name}: {' '.join(toks[i:j])}{'  (an index)' if indexed else ''}")
