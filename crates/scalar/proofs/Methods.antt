@@ -5,7 +5,7 @@ use mathlib.Core.Bool.{true, false}
 use lib.IntN.{ℤ, pos, negsuc, neg_ℤ, ◌+ℤ◌, ◌-ℤ◌, ◌*ℤ◌}
 use lib.Signed.{lt_z}
 use mir.Val.{SFits}
-use Rattle.std.specs.Int.{w16, w32, int_wrap, int_min, int_max, int_wrapping_neg}
+use Rattle.std.specs.Int.{w16, w32, w64, int_wrap, int_min, int_max, int_wrapping_neg}
 use Rattle.std.specs.Int.RustNames.{unsigned_abs}
 use Rattle.std.proofs.lemmas.Int.{to_z_pos, to_z-of_z, ints, clamps, wrapping_add_is, wrapping_sub_is, wrapping_mul_is, wrapping_neg_is}
 use Rattle.scalar.specs.cuts.Cuts.{wrap16, wrap32, sat16, packus_of}
@@ -28,6 +28,11 @@ pub low_is : (z : ℤ) → SFits w32 z → to_z w16 (of_z w32 z % 65536) ≡ wra
 unfolding wrap16
 low_is (pos n) h = refl
 low_is (negsuc n) h = ap (to_z w16) (omega arith)
+
+pub low32_is : (z : ℤ) → SFits w64 z → to_z w32 (of_z w64 z % 4294967296) ≡ wrap32 z
+unfolding wrap32
+low32_is (pos n) h = refl
+low32_is (negsuc n) h = ap (to_z w32) (omega arith)
 
 module _ (a b : ℤ) (p : SFits w16 a) (q : SFits w16 b) where
   pub add_is : to_z w16 ((of_z w16 a + of_z w16 b) % 65536) ≡ add_of a b

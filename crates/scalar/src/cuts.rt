@@ -3,7 +3,7 @@ ghost use Rattle.std.specs.Prelude.{◌≡◌};
 ghost use Rattle.std.specs.Int.Signed.{shr_z};
 ghost use Rattle.std.specs.Int.{w16};
 ghost use Rattle.std.proofs.Common.{of_z, to_z};
-ghost use Rattle.scalar.specs.cuts.Cuts.{sat16, wrap16, packus_of};
+ghost use Rattle.scalar.specs.cuts.Cuts.{sat16, wrap16, wrap32, packus_of};
 
 // The number of 16 bits nearest to s.
 #[tactic(auto, using(crate::proofs::Methods::sat_is))]
@@ -26,6 +26,14 @@ pub fn low(s: i32) -> i16
     ensures { result ≡ wrap16 s }
 {
     ((s.cast_unsigned() % 65536) as u16).cast_signed()
+}
+
+// The low 32 bits of s, read as signed.
+#[tactic(auto, using(crate::proofs::Methods::low32_is))]
+pub fn low32(s: i64) -> i32
+    ensures { result ≡ wrap32 s }
+{
+    ((s.cast_unsigned() % 4294967296) as u32).cast_signed()
 }
 
 // The 16 bits of x as an unsigned number.

@@ -10,9 +10,9 @@ pub mod signs;
 pub mod sums;
 pub mod wide;
 
-pub use crate::cuts::{bits16, high, low, packus1, sat, signed16};
+pub use crate::cuts::{bits16, high, low, low32, packus1, sat, signed16};
 pub use crate::products::{mul16, mulhi_u1, mulhi1, mullo1};
 pub use crate::shifts::{or1, sll16, sra16, sra32};
-pub use crate::signs::{abs1, max1, min1, sign1};
+pub use crate::signs::{abs1, max1, min1, neg, sign1};
 pub use crate::sums::{add1, adds1, diff16, subs1, sum16};
-pub use crate::wide::{add32, madd1, sub32};
+pub use crate::wide::{add32, diff32, madd1, sub32, sum32};

@@ -1,7 +1,14 @@
 // The sign of one lane of 16 bits (lanes.rs), and the lesser and the greater of two.
 // a and b are the two operands of one operation: a struct of both would be made for each call and taken apart in it.
-ghost use Rattle.std.specs.Prelude.{◌≡◌};
+ghost use Rattle.std.specs.Prelude.{◌≡◌, neg_ℤ};
 ghost use Rattle.scalar.specs.signs.Signs.{abs_of, sign_of, min_of, max_of};
+
+// -x, which needs 17 bits for -32768.
+pub fn neg(x: i16) -> i32
+    ensures { result ≡ neg_ℤ x }
+{
+    -i32::from(x)
+}
 
 // The magnitude; that of -32768 wraps to itself.
 #[tactic(auto, using(crate::proofs::Methods::abs_is))]

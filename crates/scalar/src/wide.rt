@@ -1,9 +1,23 @@
 // Sums and differences of one lane of 32 bits (lanes.rs), and two products added.
 // a and b are the two operands of one operation: a struct of both would be made for each call and taken apart in it.
-ghost use Rattle.std.specs.Prelude.{◌≡◌};
+ghost use Rattle.std.specs.Prelude.{◌≡◌, ◌+ℤ◌, ◌-ℤ◌};
 ghost use Rattle.scalar.specs.wide.Wide.{add32_of, sub32_of, madd_of};
 
 use crate::products::mul16;
+
+// The sum, which needs 33 bits.
+pub fn sum32(a: i32, b: i32) -> i64
+    ensures { result ≡ a +ℤ b }
+{
+    i64::from(a) + i64::from(b)
+}
+
+// The difference, which needs 33 bits.
+pub fn diff32(a: i32, b: i32) -> i64
+    ensures { result ≡ a -ℤ b }
+{
+    i64::from(a) - i64::from(b)
+}
 
 // The sum of 32 bits, wrapped.
 #[tactic(auto, using(crate::proofs::Methods::add32_is))]
