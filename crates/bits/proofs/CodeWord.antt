@@ -2,7 +2,7 @@
 use mathlib.Core.Path.{◌≡◌, refl, sym, ap, ap₂, ◌∙◌}
 use mathlib.Core.Bool.{Bool, true}
 use mathlib.Core.List.{List, ◌∷◌, ◌++◌}
-use Prim.Native.Nat.{ℕ, zero, suc, ◌+◌, ◌-◌, ◌*◌, ◌/◌, ◌^◌, ◌<◌}
+use Prim.Native.Nat.{ℕ, zero, suc, ◌+◌, ◌-◌, ◌*◌, ◌/◌, ◌^◌, ◌≤◌, ◌<◌}
 use native.Mathlib.Nat.{lt_of_lt_of_le, two-pow-succ, one-mul}
 use native.Mathlib.Omega.{arith}
 use lib.Pow.{pow_mono}
@@ -73,6 +73,13 @@ run_fits (suc n) h =
 
 pub run_length_lem : (n : ℕ) → n < 2 ^ 64 → length (run_code n) ≡ 2 * bit_length n
 run_length_lem n h = ap length (run_number n h) ∙ length_bits_of (2 * bit_length n) (2 ^ (2 * bit_length n) / 2 + n)
+
+-- codes of small numbers are short
+pub value_short : (k c : ℕ) → k ≤ 64 → 0 < c → c < 2 ^ k → length (value_code c) ≤ 2 * k - 1
+value_short k c l p h = omega (arith, value_length_lem c p (lt_of_lt_of_le h (pow_mono {i = k} {j = 64} l)), length_le k c h)
+
+pub run_short : (k n : ℕ) → k ≤ 64 → n < 2 ^ k → length (run_code n) ≤ 2 * k
+run_short k n l h = omega (arith, run_length_lem n (lt_of_lt_of_le h (pow_mono {i = k} {j = 64} l)), length_le k n h)
 
 -- a DC step of 0 is the two bits of 3
 pub zero_step_lem : zero_step_code ≡ bits_of 2 3

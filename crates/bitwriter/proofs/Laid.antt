@@ -1,5 +1,5 @@
 -- Bits joined in a word, and a word's bytes copied into a part of the buffer: laid where the part begins. Assumes nothing.
-use Rattle.std.proofs.Common.{◌≡◌, ℕ, zero, suc, ◌+◌, ◌-◌, ◌*◌, ◌%◌, ◌^◌, ◌≤◌, ◌<◌, List, ◌++◌, length, take, drop, refl, ap, arith}
+use Rattle.std.proofs.Common.{◌≡◌, ℕ, zero, suc, ◌+◌, ◌-◌, ◌*◌, ◌%◌, ◌^◌, ◌≤◌, ◌<◌, List, [], ◌++◌, length, take, drop, refl, ap, arith}
 use mathlib.Core.Path.{◌∙◌}
 use Rattle.std.specs.Int.{to_be_bytes, w64}
 use Rattle.std.proofs.lemmas.List.{drop-drop}
@@ -29,6 +29,10 @@ copied l ys xs p k e f = rw (e, f, drop-drop (length xs) p l) refl
 pub eight : (w : ℕ) → to_be_bytes w64 w ≡ word_bytes 8 w
 unfolding word_bytes
 eight w = simp div-one
+
+no_bytes_lem : (w : ℕ) → word_bytes 0 w ≡ []
+unfolding word_bytes
+no_bytes_lem w = refl
 
 last : (n k m w : ℕ) → n ≡ k + m → drop k (word_bytes n w) ≡ word_bytes m w
 unfolding word_bytes

@@ -8,7 +8,7 @@ use lib.Signed.{mag}
 use lib.Dec.{ltb}
 use borrow.Author.Tests.{ltb-true, ltb-false}
 use mir.Syntax.{w16}
-use mir.Val.{to_z, of_z}
+use mir.Val.{SFits, Fits, to_z, of_z}
 use mir.Facts.{to_z-of_z, of_z-to_z, sfits_to_z}
 use Rattle.scalar.specs.Scalar.{mod_z, wrap16, add_of, sll_of}
 
@@ -79,3 +79,11 @@ shift_zero s = ap (to_z w16) none
   where
     none : 0 * 2 ^ s % 65536 ≡ 0
     none = omega arith
+
+pub add_zero16 : (z : ℤ) → mag z < 32768 → add_of (pos 0) z ≡ z
+unfolding add_of wrap16
+add_zero16 z h = ap (to_z w16) (res_add (pos 0) z ∙ (omega (arith, res_lt z)) ∙ res_bits z h) ∙ to_z-of_z {w = w16} (record { sfits = h })
+
+pub shift_fits : (s : ℕ) (z : ℤ) → mag (sll_of z s) < 32768
+unfolding sll_of
+shift_fits s z = (sfits_to_z {w = w16} {n = of_z w16 z * 2 ^ s % 65536} (record { fits = omega arith })).sfits

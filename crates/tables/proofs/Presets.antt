@@ -50,9 +50,11 @@ unfolding quality_preset
 passed_all q zero h p = refl
 passed_all q (suc i) h p = passed_all q i (omega arith) (λ k l. p k (omega arith)) ∙ choice_passed q i h (p i (omega arith))
 
-choice_none : (q : ℕ) → choice_at q 25 ≡ record { quality = q; index = 0 }
+pub choice_none : (q i : ℕ) → 25 ≤ i → i ≤ 25 → choice_at q i ≡ record { quality = q; index = 0 }
 unfolding choose_from quality_factors
-choice_none q = refl
+choice_none q i h k =
+    let e : i ≡ 25 = omega arith in
+    rw e refl
 
 -- what a search for the first factor that reaches least finds
 module _ (f : List ℕ) (q least : ℕ) (e : f ≡ quality_factors) (l : least ≡ 100 - q) where
@@ -72,7 +74,7 @@ module _ (f : List ℕ) (q least : ℕ) (e : f ≡ quality_factors) (l : least �
   pub found_none : AllWithin (λ m. m < least) f 0 (length f) → quality_preset q ≡ record { quality = q; index = 0 }
   found_none p =
       let s : length f ≡ 25 = ap length e ∙ factors_length in
-      passed_all q 25 (omega arith) (below 25 (rw s at p)) ∙ choice_none q
+      passed_all q 25 (omega arith) (below 25 (rw s at p)) ∙ choice_none q 25 (omega arith) (omega arith)
 
 pick_below : (b : Bool) (x y : Chosen) → x.index < 25 → y.index < 25 → (pick_chosen b x y).index < 25
 pick_below true x y h k = h

@@ -7,7 +7,7 @@ use lib.Arith.{digits_div, digits_mod}
 use lib.Dec.{T, leb, leb→le}
 use lib.ListN.{get_or}
 use Rattle.tables.specs.Divisor.{base_matrix, quality_factors, divisor}
-use Rattle.tables.proofs.Every.{every_from, every}
+use Rattle.tables.proofs.Every.{both, both_left, both_right, every_from, every}
 
 -- a test at each preset and place
 module _ (g : ℕ → ℕ → Bool) where
@@ -22,7 +22,7 @@ module _ (g : ℕ → ℕ → Bool) where
       rw (e, e2) at u
 
 sized : ℕ → ℕ → Bool
-sized p y = leb 16 (divisor p y)
+sized p y = both (leb 16 (divisor p y)) (leb (divisor p y) 5312)
 
 all_sized : T (every_from (each sized) 0 1600)
 unfolding sized divisor base_matrix quality_factors
@@ -30,7 +30,11 @@ all_sized = tt
 
 pub divisor_low : (p y : ℕ) → p < 25 → y < 64 → 16 ≤ divisor p y
 unfolding sized
-divisor_low p y hp hy = leb→le 16 (divisor p y) (at_each sized all_sized p y hp hy)
+divisor_low p y hp hy = leb→le 16 (divisor p y) (both_left (leb 16 (divisor p y)) _ (at_each sized all_sized p y hp hy))
+
+pub divisor_high : (p y : ℕ) → p < 25 → y < 64 → divisor p y ≤ 5312
+unfolding sized
+divisor_high p y hp hy = leb→le (divisor p y) 5312 (both_right (leb 16 (divisor p y)) _ (at_each sized all_sized p y hp hy))
 
 last : ℕ → Bool
 last p = leb 83 (divisor p 63)
