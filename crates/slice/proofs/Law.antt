@@ -1,6 +1,6 @@
 -- What the transform and the quantiser ensure, and what follows for a plane's blocks and streams.
 use mathlib.Core.Path.{◌≡◌, ◌∙◌}
-use mathlib.Core.List.{List, [], ◌∷◌}
+use mathlib.Core.List.{List, [], ◌∷◌, map}
 use Prim.Native.Nat.{ℕ, zero, suc, ◌*◌, ◌≤◌, ◌<◌, suc-le-suc}
 use native.Mathlib.Omega.{arith}
 use lib.IntN.{ℤ, pos, nat_abs}
@@ -14,7 +14,7 @@ use Rattle.quant.proofs.Blocks.{scan_length}
 use Rattle.quant.proofs.Bounds.{scanned_bound, scanned_last}
 use Rattle.ask.specs.Limits.{preset_max, shift_max, dc_block_bytes, ac_block_bytes}
 use Rattle.calls.specs.Arguments.{Depth, is_ten, Settings, Plane}
-use Rattle.calls.specs.Streams.{dc_stream, ac_stream}
+use Rattle.calls.specs.Streams.{dc_of, dc_stream, ac_stream}
 use Rattle.calls.specs.Grid.{columns_of, blocks_of, level}
 use Rattle.slice.specs.Plane.{lanes_at, block_coefficients, coefficients_at, coefficients}
 use Rattle.calls.proofs.PlaneBack.{Blocks64}
@@ -55,6 +55,9 @@ module _ (σ : Settings) (p : Plane) (preset_le : σ.preset ≤ preset_max) wher
 
   pub blocks_fit : Blocks64 (coefficients σ p)
   blocks_fit = blocks_64 (coefficients σ p) plane_quantised
+
+  pub dcs_small : AtMost 2048 (map dc_of (coefficients σ p))
+  dcs_small = dcs_at_most (coefficients σ p) plane_quantised
 
   pub count_is : length (coefficients σ p) ≡ blocks_of p.stride
   unfolding coefficients_at

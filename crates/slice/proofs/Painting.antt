@@ -126,6 +126,12 @@ map_last g [] a e = refl
 map_last g (x ∷ xs) a e = map_last g xs a e
 
 module _ (depth : Depth) (preset place : ℕ) where
+  -- the samples of block n of a list
+  pub block_is : (blocks : List BlockRead) (n : ℕ) (d b : BlockRead) → n < length blocks → get_or blocks n d ≡ b
+      → (x : ℕ) → x < 64 → sample_in_block (block_samples depth preset place b) x ≡ sample_in depth preset place blocks n x
+  block_is blocks n d b h e x k =
+      ap (λ (z : List ℕ). get_or z x 0) (sym (map_at (block_samples depth preset place) blocks n d [] h ∙ ap (block_samples depth preset place) e))
+
   -- the block that follows those of a list
   pub block_last : (blocks : List BlockRead) (b : BlockRead)
       → (x : ℕ) → x < 64 → sample_in_block (block_samples depth preset place b) x ≡ sample_in depth preset place (blocks ++ (b ∷ [])) (length blocks) x

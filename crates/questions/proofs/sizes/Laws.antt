@@ -39,7 +39,7 @@ module _ (stride : ℕ) where
   unfolding plane_size
   plane_sized r h = ap accepted (r ∙ plane_lengths) ∙ sym (asked_yes (plane_size_questions stride) (accepted (lengths_at_most stride)) h)
 
-  pub plane_columns : 0 ≡ first_no (plane_size_questions stride) → stride / 8 ≤ 3840
+  pub plane_columns : 0 ≡ first_no (plane_size_questions stride) → stride / 8 ≤ 960
   unfolding plane_size_questions
   plane_columns h = omega (arith, (stride_legal stride (passed (stride_ok stride) 3 [] (sym h)).0).stride_le)
 
