@@ -29,12 +29,18 @@ unfolding lanes_at lanes_of
 lanes_are depth place stride l j k = tab_ext 64 (λ x h. ap (lane_of depth) (sample l j k stride x))
 
 -- the coefficients of the block at the corner c
+module _ (depth : Depth) (lanes : List ℕ → ℕ → List ℤ)
+    (same : (place stride : ℕ) (l : List ℕ) (j k : ℕ) → lanes_at depth (plane place stride l) j k ≡ lanes (drop (8 * j * stride + 8 * k) l) stride) where
+  block_at_lem : (place stride preset v c : ℕ) (l : List ℕ) (j k : ℕ) {z : List ℤ} (part : List ℕ) → pos v ≡ level depth place → c ≡ 8 * j * stride + 8 * k → part ≡ drop c l
+      → z ≡ scan_of (quantise_of preset (forward_of (is_ten depth) (pos v) (lanes part stride))) → z ≡ block_coefficients depth preset (plane place stride l) j k
+  unfolding block_coefficients
+  block_at_lem place stride preset v c l j k {z} part e f q g =
+      g ∙ ap₂ (λ (x : ℤ) (y : List ℤ). scan_of (quantise_of preset (forward_of (is_ten depth) x y))) e
+      (ap (λ (m : List ℕ). lanes m stride) q ∙ ap (λ (n : ℕ). lanes (drop n l) stride) f ∙ sym (same place stride l j k))
+
 pub block_at : (depth : Depth) (place stride preset v c : ℕ) (l : List ℕ) (j k : ℕ) {z : List ℤ} (part : List ℕ) → pos v ≡ level depth place → c ≡ 8 * j * stride + 8 * k → part ≡ drop c l
     → z ≡ scan_of (quantise_of preset (forward_of (is_ten depth) (pos v) (lanes_of depth part stride))) → z ≡ block_coefficients depth preset (plane place stride l) j k
-unfolding block_coefficients
-block_at depth place stride preset v c l j k {z} part e f q g =
-    g ∙ ap₂ (λ (x : ℤ) (y : List ℤ). scan_of (quantise_of preset (forward_of (is_ten depth) x y))) e
-    (ap (λ (m : List ℕ). lanes_of depth m stride) q ∙ ap (λ (n : ℕ). lanes_of depth (drop n l) stride) f ∙ sym (lanes_are depth place stride l j k))
+block_at depth = block_at_lem depth (lanes_of depth) (lanes_are depth)
 
 -- the rows from the corner on, as the definitions see them, and that they are long enough for the block
 pub part_samples : {A : Type 0} (number : A → ℕ) (samples : List A → List ℕ) → ((xs : List A) → samples xs ≡ map number xs) → (l : List A) (c : ℕ) → samples (take (length l - c) (drop c l)) ≡ drop c (samples l)
