@@ -10,10 +10,11 @@ use lib.Seq.{set_at}
 use Rattle.bits.specs.Bits.{bit_at}
 use Rattle.bits.specs.Read.{run, value, read_symbol}
 use Rattle.bits.specs.Signed.{signed_of}
-use Rattle.std.specs.Prelude.{Option, Some, None, IsSome}
+use Rattle.std.specs.Prelude.{Result, Ok, Err, IsOk}
 use Rattle.bitreader.specs.Cursor.{At, SymbolGot, NextSymbol}
 use Rattle.bitreader.specs.declared.AcCursor.{AcCursor}
 use Rattle.bitreader.specs.declared.Got.{Got}
+use Rattle.bitreader.specs.declared.BadCode.{BadCode}
 use Rattle.bitreader.proofs.Looks.{at_none}
 use Rattle.calls.specs.ReadPlane.{places, read_places}
 use Rattle.tables.specs.Zigzag.{zigzag_at}
@@ -120,10 +121,10 @@ module _ (s : List ℕ) (p r : ℕ) (c : AcCursor) (place : ℕ) (nat : List ℤ
         }
 
   -- no bad code in the block: there is a symbol here
-  pub going_some : place < 64 → good_places (read_places 64 (bit_at s) p r) ≡ true → (o : Option Got) → NextSymbol s c o → IsSome o
-  going_some b e None n =
-      absurd (some (bit_at s) place c.pos b n (behind_good i.got (read_places (64 - place) (bit_at s) c.pos (place - 64)) (sym (ap good_places i.same) ∙ e)))
-  going_some b e (Some g) n = refl
+  pub going_some : place < 64 → good_places (read_places 64 (bit_at s) p r) ≡ true → (o : Result Got BadCode) → NextSymbol s c o → IsOk o
+  going_some b e (Err x) n =
+      absurd (some (bit_at s) place c.pos b n.1 (behind_good i.got (read_places (64 - place) (bit_at s) c.pos (place - 64)) (sym (ap good_places i.same) ∙ e)))
+  going_some b e (Ok g) n = refl
 
   module _ (g : Got) (b : place < 64) (n : SymbolGot s c g) where
     pub going_value : g.run ≡ 0 → {v : ℤ} → v ≡ signed_of g.num → {j : ℕ} → j ≡ zigzag_at place

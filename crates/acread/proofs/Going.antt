@@ -4,7 +4,8 @@ use mathlib.Core.List.{List}
 use Prim.Native.Nat.{ℕ, zero, suc, ◌+◌, ◌-◌, ◌^◌, ◌≤◌, ◌<◌}
 use native.Mathlib.Omega.{arith}
 use Rattle.bits.specs.Bits.{bit_at}
-use Rattle.bitreader.specs.Cursor.{At, SymbolGot, NextSymbol}
+use Rattle.bits.specs.Read.{bad_symbol, read_symbol}
+use Rattle.bitreader.specs.Cursor.{At, SymbolGot}
 use Rattle.bitreader.specs.declared.AcCursor.{AcCursor}
 use Rattle.bitreader.specs.declared.Got.{Got}
 use Rattle.calls.specs.ReadPlane.{read_places}
@@ -39,7 +40,7 @@ going_turn s p r c place g {w} i b n e =
       few = omega arith;
     }
 
-pub going_bad : (s : List ℕ) (p r : ℕ) (c : AcCursor) (place : ℕ) → Going s p r c place → place < 64 → NextSymbol s c None → BlockEnded s p r None
+pub going_bad : (s : List ℕ) (p r : ℕ) (c : AcCursor) (place : ℕ) → Going s p r c place → place < 64 → bad_symbol ≡ read_symbol (bit_at s) c.pos → BlockEnded s p r None
 going_bad s p r c place i b n =
     record {
       answer = sym (i.same ∙ stop (bit_at s) place c.pos b n);

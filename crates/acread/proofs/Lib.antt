@@ -1,3 +1,4 @@
 pub mod Turn
 pub mod Going
 pub mod Table
+pub mod Rows

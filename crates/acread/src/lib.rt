@@ -79,7 +79,9 @@ pub fn skip_block(s: &[u8], c0: AcCursor, pending: u64, tab: Option<&[u32]>) -> 
         if 64 <= place {
             break;
         }
-        let g = bitreader::next_symbol(s, c)?;
+        let Ok(g) = bitreader::next_symbol(s, c) else {
+            return None;
+        };
         c = g.c;
         place += span(g.run, g.num);
     }

@@ -4,7 +4,6 @@
 // two (a caller holds both in one `Positions`), `columns` the plane's; a struct of the two would be made for each call, to be taken apart in it.
 // `dc_good` and `ac_good` are two: one function over the reading function would ask, of that parameter, all of the contract of
 // `through_dc` or `through_ac`, and be told by which definition a stream is good; the body that it spares has one `if`.
-// The loops count no index: they read so many codes or blocks.
 ghost use Rattle.std.specs.Prelude.{◌≡◌, ◌*◌, ◌^◌, ◌≤◌, ◌<◌};
 ghost use Rattle.bits.specs.Bits.{bit_at};
 ghost use Rattle.calls.specs.ReadPlane.{read_steps, read_blocks};
@@ -19,12 +18,17 @@ pub fn through_dc(dc: &[u8], at: usize, columns: usize) -> Result<usize, Refusal
     ensures { end_says result ≡ dc_end (read_steps (2 * columns) (bit_at dc.now) (8 * at)) }
 {
     let mut c = bitreader::cursor(dc, 8 * at);
-    for code in 0..2 * columns {
-        let Some(g) = bitreader::next_dc(dc, c) else {
-            return Err(Refusal::Code);
-        };
-        c = g.c;
+    let mut read: Result<(), Refusal> = Ok(());
+    'codes: for j in 0usize..2 {
+        for k in 0..columns {
+            let Ok(g) = bitreader::next_dc(dc, c) else {
+                read = Err(Refusal::Code);
+                break 'codes;
+            };
+            c = g.c;
+        }
     }
+    read?;
     Ok(bitreader::end_byte(c))
 }
 
@@ -36,13 +40,18 @@ pub fn through_ac(ac: &[u8], at: usize, columns: usize) -> Result<usize, Refusal
     let tab = acpairs::looks();
     let mut c = bitreader::cursor(ac, 8 * at);
     let mut pending: u64 = 0;
-    for block in 0..2 * columns {
-        let Some(end) = crate::skip_block(ac, c, pending, Some(&tab)) else {
-            return Err(Refusal::Code);
-        };
-        c = end.c;
-        pending = end.pending;
+    let mut read: Result<(), Refusal> = Ok(());
+    'rows: for j in 0usize..2 {
+        for k in 0..columns {
+            let Some(end) = crate::skip_block(ac, c, pending, Some(&tab)) else {
+                read = Err(Refusal::Code);
+                break 'rows;
+            };
+            c = end.c;
+            pending = end.pending;
+        }
     }
+    read?;
     Ok(bitreader::end_byte(c))
 }
 

@@ -7,13 +7,14 @@ use native.Mathlib.Nat.{add-zero, lt_of_lt_of_le, mod-lt, two-pow-succ, mul-le-m
 use native.Mathlib.Omega.{arith}
 use lib.Pow.{pow_mono, pow_pos, shl_exact, shr_lt}
 use lib.Count.{count_leading_zeros, leading_length}
-use Rattle.std.specs.Prelude.{Option, Some, None}
+use Rattle.std.specs.Prelude.{Some, None, Result, Ok, Err}
 use Rattle.bits.specs.Bits.{bit, bit_at, Stream, num}
 use Rattle.bits.specs.Read.{zeros, read_symbol, read_dc}
 use Rattle.bitreader.specs.words.Word.{Holds}
-use Rattle.bitreader.specs.Cursor.{At, symbol_by, dc_by, Next, NextSymbol, NextDc, SeenDc}
+use Rattle.bitreader.specs.Cursor.{At, symbol_by, dc_by, Next, BadAt, NextSymbol, NextDc, SeenDc}
 use Rattle.bitreader.specs.declared.AcCursor.{AcCursor}
 use Rattle.bitreader.specs.declared.Got.{Got}
+use Rattle.bitreader.specs.declared.BadCode.{BadCode}
 use Rattle.bitreader.proofs.words.Num.{zeros_more, zeros_all}
 use Rattle.bitreader.proofs.words.Words.{holds_top, holds_up}
 use Rattle.bitreader.proofs.Leads.{lead_few, lead_many}
@@ -83,6 +84,14 @@ bit_most false = omega arith
 pub next_at : (s : List ℕ) (c d : AcCursor) (g : Got) → d.pos ≡ c.pos → Next s d g → Next s c g
 next_at s c d g e n = record { ready = n.ready; head = n.head ∙ ap (λ (x : ℕ). bit (bit_at s x)) e; more = n.more; small = n.small; near = omega (arith, n.near) }
 
+-- the same of a bad code
+bad_at : (s : List ℕ) (c d : AcCursor) (b : BadCode) → d.pos ≡ c.pos → BadAt s d b → BadAt s c b
+bad_at s c d b e n = record { ready = n.ready; head = n.head ∙ ap (λ (x : ℕ). bit (bit_at s x)) e; stays = n.stays ∙ e }
+
+-- a bad code at the cursor d of its place
+pub bad_here : (s : List ℕ) (d : AcCursor) (r : ℕ) → At s d → r ≡ bit (bit_at s d.pos) → BadAt s d (record { run = r; c = d })
+bad_here s d r a h = record { ready = a; head = h; stays = refl }
+
 module _ (s : List ℕ) (c : AcCursor) (a : At s c) (some : 0 < c.count) where
   pub head_is : c.bits / 2 ^ 63 ≡ bit (bit_at s c.pos)
   head_is = holds_top s c.pos c.count c.bits 1 a.holds a.most some ∙ one_bit (bit_at s) c.pos
@@ -127,13 +136,13 @@ module _ (s : List ℕ) (c : AcCursor) (a : At s c) (some : 0 < c.count) where
           (found.is ∙ ap (λ (x : ℕ). num (suc y) 0 (bit_at s) (x + y)) e0) kp
 
 -- the same of a whole answer
-pub symbol_at : (s : List ℕ) (c d : AcCursor) (o : Option Got) → d.pos ≡ c.pos → NextSymbol s d o → NextSymbol s c o
-symbol_at s c d None e n = n ∙ ap (read_symbol (bit_at s)) e
-symbol_at s c d (Some g) e n = record { next = next_at s c d g e n.next; answer = n.answer ∙ ap (read_symbol (bit_at s)) e }
+pub symbol_at : (s : List ℕ) (c d : AcCursor) (o : Result Got BadCode) → d.pos ≡ c.pos → NextSymbol s d o → NextSymbol s c o
+symbol_at s c d (Err b) e n = (bad_at s c d b e n.0, n.1 ∙ ap (read_symbol (bit_at s)) e)
+symbol_at s c d (Ok g) e n = record { next = next_at s c d g e n.next; answer = n.answer ∙ ap (read_symbol (bit_at s)) e }
 
-pub dc_at : (s : List ℕ) (c d : AcCursor) (o : Option Got) → d.pos ≡ c.pos → NextDc s d o → NextDc s c o
-dc_at s c d None e n = n ∙ ap (read_dc (bit_at s)) e
-dc_at s c d (Some g) e n = record { next = next_at s c d g e n.next; answer = n.answer ∙ ap (read_dc (bit_at s)) e }
+pub dc_at : (s : List ℕ) (c d : AcCursor) (o : Result Got BadCode) → d.pos ≡ c.pos → NextDc s d o → NextDc s c o
+dc_at s c d (Err b) e n = (bad_at s c d b e n.0, n.1 ∙ ap (read_dc (bit_at s)) e)
+dc_at s c d (Ok g) e n = record { next = next_at s c d g e n.next; answer = n.answer ∙ ap (read_dc (bit_at s)) e }
 
 -- ---- a look at the DC stream
 module _ (c : AcCursor) (many : 31 < c.count) where

@@ -9,7 +9,7 @@ use lib.Count.{count_leading_zeros, leading_le}
 use Rattle.std.specs.Prelude.{Some, None}
 use Rattle.bitreader.specs.Cursor.{At, SymbolGot, Seen}
 use Rattle.bitreader.specs.declared.AcCursor.{AcCursor}
-use Rattle.bitreader.proofs.Looks.{digits_some, digits_small, head_most, behind, zero_first, look_next, look_symbol}
+use Rattle.bitreader.proofs.Looks.{digits_some, digits_small, head_is, head_most, behind, zero_first, look_next, look_symbol}
 
 -- the head, the word after it, its leading zeros, the symbol's length
 abbrev head_of : AcCursor → ℕ
@@ -28,10 +28,13 @@ pub zeros_most : (c : AcCursor) → zeros_of c ≤ 64
 zeros_most c = leading_le 64 (rest_of c)
 
 pub seen_none : (c : AcCursor) → c.count ≤ size_of c → Seen c None
-seen_none c l s a o =
-    let p : 0 < c.count = omega arith in
-    let h = head_most s c a p in
-    zero_first s c a p (head_of c) (c.count - head_of c) (rest_of c) (zeros_of c) (behind s c a p) (omega (arith, a.most)) refl (omega (arith, h)) (omega (arith, h))
+seen_none c l = record {
+  head = λ s a o. head_is s c a o;
+  long = λ s a o.
+      let p : 0 < c.count = omega arith in
+      let h = head_most s c a p in
+      zero_first s c a p (head_of c) (c.count - head_of c) (rest_of c) (zeros_of c) (behind s c a p) (omega (arith, a.most)) refl (omega (arith, h)) (omega (arith, h));
+}
 
 pub seen_some : (c : AcCursor) → c.count ≤ 64 → (n : ℕ) (k : AcCursor) → size_of c < c.count → n ≡ ((rest_of c * 2 ^ zeros_of c) % 2 ^ 64) / 2 ^ (63 - zeros_of c)
     → k.pos ≡ c.pos + size_of c → k.count ≡ c.count - size_of c → k.bits ≡ (c.bits * 2 ^ size_of c) % 2 ^ 64 → Seen c (Some (record { run = head_of c; num = n; c = k }))

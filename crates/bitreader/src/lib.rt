@@ -31,6 +31,13 @@ pub struct Got {
     pub c: AcCursor,
 }
 
+// A bad code: its head bit, and a cursor at its place.
+#[derive(Clone, Copy, Debug, PartialEq, Eq, Hash)]
+pub struct BadCode {
+    pub run: u64,
+    pub c: AcCursor,
+}
+
 // Within a block: the cursor, and the place that the next symbol is for.
 #[derive(Clone, Copy, Debug, PartialEq, Eq, Hash)]
 pub struct Stop {
@@ -164,31 +171,35 @@ fn longer(c: AcCursor, run: u64, v: u64) -> Got
     }
 }
 
-// The symbol of the AC stream at a cursor: `0` value, `10` run, `11` run of 1; nothing for a bad code.
-pub fn next_symbol(s: &[u8], c: AcCursor) -> Option<Got>
+// The symbol of the AC stream at a cursor: `0` value, `10` run, `11` run of 1; or a bad code.
+pub fn next_symbol(s: &[u8], c: AcCursor) -> Result<Got, BadCode>
     requires { At s.now c × (c.pos < 2 ^ 60) }
     ensures { NextSymbol s.now c result }
 {
     let d = filled(s, c);
     if let Some(g) = look(d) {
-        return Some(g);
+        return Ok(g);
     }
     let run = d.bits >> 63;
-    let v = long_number(s, d.pos + 1 + run as usize)?;
-    Some(longer(d, run, v))
+    let Some(v) = long_number(s, d.pos + 1 + run as usize) else {
+        return Err(BadCode { run, c: d });
+    };
+    Ok(longer(d, run, v))
 }
 
-// The code of the DC stream at a cursor: a first bit of one is a zero step; nothing for a bad code.
-pub fn next_dc(s: &[u8], c: AcCursor) -> Option<Got>
+// The code of the DC stream at a cursor: a first bit of one is a zero step; or a bad code.
+pub fn next_dc(s: &[u8], c: AcCursor) -> Result<Got, BadCode>
     requires { At s.now c × (c.pos < 2 ^ 60) }
     ensures { NextDc s.now c result }
 {
     let d = filled(s, c);
     if let Some(g) = look_dc(d) {
-        return Some(g);
+        return Ok(g);
     }
-    let v = long_number(s, d.pos + 1)?;
-    Some(longer(d, 0, v))
+    let Some(v) = long_number(s, d.pos + 1) else {
+        return Err(BadCode { run: 0, c: d });
+    };
+    Ok(longer(d, 0, v))
 }
 
 // The number of a value code, cut to 16 bits, wrapping: an odd code is above 0.

@@ -1,16 +1,17 @@
 // Reading symbols (crate bitreader).
-ghost use Rattle.bitreader.specs.Cursor.{At, Next};
-ghost use Rattle.std.specs.Prelude.{IfSome, ◌^◌, ◌<◌};
+ghost use Rattle.bitreader.specs.Cursor.{At, Next, BadAt};
+ghost use Rattle.std.specs.Prelude.{IfOk, IfErr, ◌^◌, ◌<◌};
 
-use bitreader::{AcCursor, Got};
+use bitreader::{AcCursor, BadCode, Got};
 
 // The last bit at which a code is read.
 const FARTHEST: usize = 1000000000000;
 
 // The code at a cursor: of the DC stream, or a symbol of the AC stream.
-fn code(s: &[u8], c: AcCursor, dc: bool) -> Option<Got>
+fn code(s: &[u8], c: AcCursor, dc: bool) -> Result<Got, BadCode>
     requires { At s.now c × (c.pos < 2 ^ 60) }
-    ensures { IfSome result (λ g. Next s.now c g) }
+    ensures read { IfOk result (λ g. Next s.now c g) }
+    ensures bad { IfErr result (λ b. BadAt s.now c b) }
 {
     if dc {
         bitreader::next_dc(s, c)
@@ -32,13 +33,16 @@ pub fn probe_bitreader_read(s: &[u8], at: usize, dc: bool, out: &mut [u64]) -> u
             break;
         }
         stored += 3;
-        let Some(got) = code(s, cursor, dc) else {
-            let head = bitreader::words::peek(s, cursor.pos) >> 63;
-            three.copy_from_slice(&[head, 0, cursor.pos as u64]);
-            break;
-        };
-        three.copy_from_slice(&[got.run, got.num, got.c.pos as u64]);
-        cursor = got.c;
+        match code(s, cursor, dc) {
+            Ok(got) => {
+                three.copy_from_slice(&[got.run, got.num, got.c.pos as u64]);
+                cursor = got.c;
+            }
+            Err(bad) => {
+                three.copy_from_slice(&[bad.run, 0, bad.c.pos as u64]);
+                break;
+            }
+        }
     }
     stored
 }

@@ -9,18 +9,18 @@ use Rattle.acread.proofs.skip_block.Goals.{else-loop-place-test, then-loop-place
 pub loop-place-init : goal.loop-place-init
 loop-place-init c = (c.requires.1, going_start c.args.s.now c.args.c0 c.args.pending c.requires.0 c.requires.2)
 
-pub returns-in_err-g : goal.returns-in_err-g
-returns-in_err-g c =
+pub returns-in_default : goal.returns-in_default
+returns-in_default c =
     let a = c.args in
     let t = c.looked-a in
     let i = t.ensures.goes a.s.now a.c0.pos a.pending c.loop-place.invariant.1 in
-    rw c.from_residual.ensures (going_bad a.s.now a.c0.pos a.pending t.result.c t.result.place i (omega arith) c.in_err-g.ensures)
+    going_bad a.s.now a.c0.pos a.pending t.result.c t.result.place i (omega arith) c.in_default.ensures.1
 
 pub loop-place-preserved : goal.loop-place-preserved
 loop-place-preserved c =
     let a = c.args in
     let t = c.looked-a in
-    let g = c.in_ok-g in
+    let g = c.in-Ok in
     let i = t.ensures.goes a.s.now a.c0.pos a.pending c.loop-place.invariant.1 in
     (c.loop-place.invariant.0, going_turn a.s.now a.c0.pos a.pending t.result.c t.result.place g.g i (omega arith) g.ensures c.span-place.ensures)
 

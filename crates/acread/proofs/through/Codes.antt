@@ -5,13 +5,14 @@ use Prim.Native.Nat.{ℕ, zero, suc, ◌+◌}
 use native.Mathlib.Nat.{suc-add}
 use native.Mathlib.Omega.{arith}
 use Rattle.ask.specs.Ask.{accepted}
-use Rattle.std.specs.Prelude.{Option, Some, None, IsSome}
+use Rattle.std.specs.Prelude.{Result, Ok, Err, IsOk}
 use mathlib.Core.List.{List}
 use Rattle.bits.specs.Bits.{Stream, bit_at}
 use Rattle.bits.specs.Read.{DcCode, bad_dc, zero_step, step, read_dc}
 use Rattle.bitreader.specs.Cursor.{dc_by, NextDc}
 use Rattle.bitreader.specs.declared.AcCursor.{AcCursor}
 use Rattle.bitreader.specs.declared.Got.{Got}
+use Rattle.bitreader.specs.declared.BadCode.{BadCode}
 use Rattle.calls.specs.ReadPlane.{DcStep, keep, replace, DcSteps, bad_steps, dc_steps, step_then, by_dc_code, read_steps}
 use Rattle.acread.specs.through.Codes.{step_of, good_steps, dc_bit}
 
@@ -56,9 +57,9 @@ steps_bad s n p e = rw (← e) refl
 pub some : (s : Stream) (n p : ℕ) → good_steps (read_steps (suc n) s p) ≡ true → bad_dc ≡ read_dc s p → ⊥
 some s n p g e = never (sym (ap good_steps (steps_bad s n p e)) ∙ g)
 
-pub code_here : (l : List ℕ) (c : AcCursor) (n : ℕ) → good_steps (read_steps (suc n) (bit_at l) c.pos) ≡ true → (o : Option Got) → NextDc l c o → IsSome o
-code_here l c n g None b = absurd (some (bit_at l) n c.pos g b)
-code_here l c n g (Some x) b = refl
+pub code_here : (l : List ℕ) (c : AcCursor) (n : ℕ) → good_steps (read_steps (suc n) (bit_at l) c.pos) ≡ true → (o : Result Got BadCode) → NextDc l c o → IsOk o
+code_here l c n g (Err x) b = absurd (some (bit_at l) n c.pos g b.1)
+code_here l c n g (Ok x) b = refl
 
 module _ (s : Stream) (n p k h q : ℕ) (e : dc_by k h q ≡ read_dc s p) where
   pub steps_next : read_steps (suc n) s p ≡ step_then (step_of h k) (read_steps n s q)

@@ -6,8 +6,8 @@ use native.Mathlib.Omega.{arith}
 use Rattle.ask.specs.Ask.{refused, accepted}
 use Rattle.ask.specs.Numbers.{no_code}
 use Rattle.bits.specs.Bits.{bit_at}
-use Rattle.std.specs.Prelude.{None}
-use Rattle.bitreader.specs.Cursor.{At, DcGot, NextDc}
+use Rattle.bits.specs.Read.{bad_dc, read_dc}
+use Rattle.bitreader.specs.Cursor.{At, DcGot}
 use Rattle.bitreader.specs.declared.AcCursor.{AcCursor}
 use Rattle.bitreader.specs.declared.Got.{Got}
 use Rattle.calls.specs.ReadPlane.{read_steps}
@@ -35,7 +35,7 @@ module _ (s : List ℕ) (p n : ℕ) (c : AcCursor) (m : ℕ) (i : Going s p n c 
         near = omega (arith, b.next.near, i.near);
       }
 
-  pub going_bad : NextDc s c None → dc_bit (read_steps n (bit_at s) p) ≡ refused no_code
+  pub going_bad : bad_dc ≡ read_dc (bit_at s) c.pos → dc_bit (read_steps n (bit_at s) p) ≡ refused no_code
   going_bad b = i.same ∙ ap dc_bit (steps_bad (bit_at s) m c.pos b)
 
 pub going_over : (s : List ℕ) (p n : ℕ) (c : AcCursor) (left : ℕ) → left ≡ 0 → Going s p n c left → dc_bit (read_steps n (bit_at s) p) ≡ accepted c.pos

@@ -9,13 +9,14 @@ use lib.ListN.{length, take, drop, set, length-append}
 use mir.Syntax.{w16}
 use mir.Val.{SFits}
 use Rattle.scalar.specs.Scalar.{add_of}
-use Rattle.std.specs.Prelude.{Option, IsSome}
+use Rattle.std.specs.Prelude.{Result, IsOk}
 use Rattle.bits.specs.Bits.{bit_at}
 use Rattle.bits.specs.Lay.{lay}
 use Rattle.bits.proofs.LayLaw.{lay_none, lay_next}
 use Rattle.bitreader.specs.Cursor.{At, DcGot, NextDc}
 use Rattle.bitreader.specs.declared.AcCursor.{AcCursor}
 use Rattle.bitreader.specs.declared.Got.{Got}
+use Rattle.bitreader.specs.declared.BadCode.{BadCode}
 use Rattle.calls.specs.ReadPlane.{read_steps, settle}
 use Rattle.blockread.specs.dc.Steps.{byte_of, bytes_from}
 use Rattle.preview.specs.row.Row.{RowDone}
@@ -77,7 +78,7 @@ module _ (s : List ℕ) (shift : ℕ) (level : ℤ) (n : ℕ) (before : ℤ) (ou
 
   -- a good row has a code here
   pub row_code : (p : ℕ) (c : AcCursor) (last : ℤ) (k : ℕ) (now : List ℕ) → Row s shift level n p before out c last k now → k < n → good_steps (read_steps n (bit_at s) p) ≡ true
-      → (o : Option Got) → NextDc s c o → IsSome o
+      → (o : Result Got BadCode) → NextDc s c o → IsOk o
   row_code p c last k now i h g o b =
       let e : n + 0 ≡ n = omega arith in
       let f : n - k + 0 ≡ suc (n - (k + 1)) = omega arith in
