@@ -8,7 +8,7 @@ use lib.Signed.{mag}
 use lib.Dec.{ltb}
 use borrow.Author.Tests.{ltb-true, ltb-false}
 use mir.Syntax.{w16}
-use mir.Val.{SFits, Fits, to_z, of_z}
+use mir.Val.{to_z, of_z}
 use mir.Facts.{to_z-of_z, of_z-to_z, sfits_to_z}
 use Rattle.scalar.specs.Scalar.{mod_z, wrap16, add_of, sll_of}
 
