@@ -9,6 +9,8 @@ use replay::{Record, cut, part};
 use std::array;
 
 pub const LENGTH: usize = 1120;
+// A record has room for so many streams.
+const STREAMS: usize = 8;
 
 // A stream that is handed over: twelve bytes.
 #[derive(Clone, Copy)]
@@ -52,8 +54,11 @@ impl<'a> Stream<'a> {
     }
 }
 
-// The state after all streams, where each is answered as stored.
+// The state after all streams, where each is answered as stored. Of a ninth one no answer is stored.
 fn streams(record: Record<'_>, started: Builder, out: &mut [u8]) -> Option<Builder> {
+    if STREAMS < record.size(14) {
+        return None;
+    }
     // The bytes that streams are taken from: 32, repeated.
     let bytes: [u8; 1024] = array::from_fn(|k| record.byte(128 + k % 32));
     let mut state = started;

@@ -8,6 +8,9 @@ pub trait Depth: Stored + Sample {
 
     // The sample of a number of 16 bits.
     fn of_number(number: u16) -> Self;
+
+    // What stands for samples that lie past a record's end, of rows that were filled with this one.
+    fn missing(filled: Self) -> Self;
 }
 
 impl Depth for u8 {
@@ -20,6 +23,10 @@ impl Depth for u8 {
         let [_, high] = number.to_le_bytes();
         high
     }
+
+    fn missing(filled: u8) -> u8 {
+        filled
+    }
 }
 
 impl Depth for u16 {
@@ -29,5 +36,9 @@ impl Depth for u16 {
 
     fn of_number(number: u16) -> u16 {
         number
+    }
+
+    fn missing(_filled: u16) -> u16 {
+        0
     }
 }

@@ -28,6 +28,17 @@ pub fn kind_of(ac: bool) -> Kind {
     if ac { Kind::Ac } else { Kind::Dc }
 }
 
+// A header's numbers, as they are stored.
+fn numbers(header: Header) -> [usize; 5] {
+    [
+        usize::from(header.interlaced),
+        usize::from(header.quality),
+        usize::from(header.dc_shift),
+        header.header_len,
+        usize::from(header.ac),
+    ]
+}
+
 impl<'a> Frame<'a> {
     fn of(record: Record<'a>) -> Frame<'a> {
         Frame {
@@ -40,16 +51,10 @@ impl<'a> Frame<'a> {
         }
     }
 
-    // The stored header, or its refusal.
-    fn stored_header(self) -> Result<Header, u32> {
-        let header = Header {
-            interlaced: self.record.flag(8),
-            quality: self.record.byte(9),
-            dc_shift: self.record.byte(10),
-            header_len: self.record.small(11),
-            ac: self.record.flag(12),
-        };
-        self.record.answer(7, header)
+    // The numbers of the stored header, or its refusal.
+    fn stored_header(self) -> Result<[usize; 5], u32> {
+        let numbers: [u8; 5] = self.record.numbers(8);
+        self.record.answer(7, numbers.map(usize::from))
     }
 
     // Where the stream lies.
@@ -62,7 +67,9 @@ impl<'a> Frame<'a> {
 
     // The header, or its refusal.
     fn header(self) -> bool {
-        parser::parse(self.width, self.height, self.bytes).map_err(Refusal::number)
+        parser::parse(self.width, self.height, self.bytes)
+            .map(numbers)
+            .map_err(Refusal::number)
             == self.stored_header()
     }
 
@@ -92,7 +99,7 @@ impl<'a> Frame<'a> {
             self.width,
             self.height,
             self.bytes,
-            u32::from(self.ac),
+            u32::from(self.record.byte(5)),
             self.slice,
             &mut offset,
             &mut len,
@@ -121,9 +128,9 @@ impl<'a> Frame<'a> {
     fn tabled(self) -> bool {
         let mut table = [[7; 2]; VIEWS];
         let lent = table.as_flattened_mut();
-        let header = views::all_views(self.width, self.height, self.bytes, lent).map_err(
-            Refusal::number,
-        );
+        let header = views::all_views(self.width, self.height, self.bytes, lent)
+            .map(numbers)
+            .map_err(Refusal::number);
         let told = match header {
             Ok(_) => self.in_table(&table),
             Err(_) => table[0] == [7; 2],

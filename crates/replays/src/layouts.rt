@@ -24,11 +24,13 @@ fn sizes(record: Record<'_>) -> bool {
     Layout::new(width, height).map_err(Refusal::number) == record.answer(1, stored)
 }
 
-// The image row in a row of the coded planes, or none.
+// The image row in a row of the coded planes, or none. A byte but 0 and 1 says neither.
 fn image_row(record: Record<'_>) -> bool {
     let height = record.position(16);
     let stored = record.flag(3).then_some(record.position(32));
-    height <= HEIGHT_MAX && layout::image_row(height, record.position(24), record.flag(2)) == stored
+    record.byte(3) < 2
+        && height <= HEIGHT_MAX
+        && layout::image_row(height, record.position(24), record.flag(2)) == stored
 }
 
 // The size of the preview, and whether such a height may be interlaced.

@@ -20,7 +20,7 @@ fn eight(record: Record<'_>, operation: u8) -> [i16; 8] {
         0..=9 => of_lanes::probe_lanes_two(u32::from(operation), &a, &b, &mut r),
         10..=12 => of_lanes::probe_lanes_one(u32::from(operation - 10), &a, n, &mut r),
         13..=15 => of_shuffles::probe_shuffles_row(u32::from(operation - 13), &a, n, &mut r),
-        16 => of_shuffles::probe_shuffles_unpacklo32(&a, &b, &mut r),
+        16..=19 => of_shuffles::probe_shuffles_unpacklo32(&a, &b, &mut r),
         31 => {
             let [a, b]: [[i32; 4]; 2] = rows(record);
             of_lanes::probe_lanes_packs32(&a, &b, &mut r)
@@ -38,7 +38,7 @@ fn four(record: Record<'_>, operation: u8) -> [i32; 4] {
     let mut r = [0; 4];
     match operation {
         20..=22 => of_lanes::probe_lanes_two32(u32::from(operation - 20), &a, &b, n, &mut r),
-        23 => of_shuffles::probe_shuffles_wide(&a, n, &mut r),
+        23..=29 => of_shuffles::probe_shuffles_wide(&a, n, &mut r),
         30 => {
             let [a, b]: [[i16; 8]; 2] = rows(record);
             of_lanes::probe_lanes_madd(&a, &b, &mut r)
@@ -54,10 +54,11 @@ fn packus8(record: Record<'_>) -> [u8; 8] {
     array::from_fn(|k| of_lanes::probe_lanes_packus8(&a, k))
 }
 
+// A number that is no operation is taken as the one before it, and from 32 on as the last.
 pub fn holds(record: Record<'_>) -> bool {
     match record.byte(0) {
+        operation @ (0..=19 | 31 | 40 | 42) => eight(record, operation) == record.numbers(34),
         operation @ (20..=30 | 41) => four(record, operation) == record.numbers(34),
-        43 => packus8(record) == record.numbers(34),
-        operation => eight(record, operation) == record.numbers(34),
+        _ => packus8(record) == record.numbers(34),
     }
 }

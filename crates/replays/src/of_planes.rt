@@ -9,11 +9,11 @@ use std::array;
 
 pub const LENGTH: usize = 552;
 
-// The 512 samples.
+// The 512 samples: those that are stored, repeated. Past the record's room for them it is the first one.
 fn samples<T: Depth>(record: Record<'_>) -> [T; 512] {
     let stored: [T; 256] = record.numbers(296);
     let n = record.size(14).max(1);
-    array::from_fn(|k| stored.get(k % n).copied().unwrap_or(T::default()))
+    array::from_fn(|k| stored.get(k % n).copied().unwrap_or(stored[0]))
 }
 
 // Whether a call that is lent a buffer for each stream answers as stored, and leaves in them what is stored.

@@ -4,7 +4,7 @@ use crate::arguments::Call;
 use crate::depths::Depth;
 use calls::Positions;
 use questions::answers::Refused;
-use replay::{Record, cut, part};
+use replay::{LONGEST, Record, cut, part};
 
 pub const LENGTH: usize = 808;
 // Document 01's lengths of the longest streams that may be read, not those of crate ask: a wrong one there is to be seen.
@@ -15,6 +15,12 @@ const LONGEST_AC: usize = 430080;
 const ONES: usize = LONGEST_AC + 1;
 // The samples that each plane has room for.
 const ROOM: usize = 280;
+// The stored rows begin here; zeros follow them.
+const ROWS: usize = 296;
+// The samples of 8 bits from there on, and those of 10 bits.
+const STORED8: usize = LONGEST - ROWS;
+
+const STORED10: usize = STORED8 / 2;
 
 // A stored call and the streams that it reads.
 #[derive(Clone, Copy)]
@@ -31,8 +37,8 @@ impl Reading<'_> {
     }
 
     // The samples that are stored.
-    fn stored<T: Depth>(self) -> [T; 512] {
-        self.call.record.numbers(296)
+    fn stored<T: Depth, const N: usize>(self) -> [T; N] {
+        self.call.record.numbers(ROWS)
     }
 
     // How many samples the rows of each plane have.
@@ -42,13 +48,12 @@ impl Reading<'_> {
 
     // Whether planes hold what is stored of each, and what they were filled with after it.
     fn hold<T: Depth>(self, planes: &[&[T]], stored: &[T]) -> bool {
+        let filled: T = self.call.filled();
         planes.iter().zip(self.call.rows()).all(|(rows, place)| {
-            replay::holds(
-                rows,
-                self.call.filled(),
-                0..place.len(),
-                part(stored, place),
-            )
+            let (read, rest) = rows.split_at(place.len().min(rows.len()));
+            let missing = T::missing(filled);
+            replay::holds(read, missing, 0..read.len(), part(stored, place))
+                && rest.iter().all(|sample| *sample == filled)
         })
     }
 
@@ -108,7 +113,11 @@ impl Reading<'_> {
         let ends = answer
             .map(|dc| Positions { dc, ac: start.ac })
             .map_err(|no| Refused { no, start });
-        call.answered(ends) && self.hold(&[upper.as_slice(), lower.as_slice()], &self.stored())
+        call.answered(ends)
+            && self.hold(
+                &[upper.as_slice(), lower.as_slice()],
+                &self.stored::<u8, STORED8>(),
+            )
     }
 
     // A block report, into one plane's rows.
@@ -122,27 +131,27 @@ impl Reading<'_> {
         let ends = answer
             .map(|ac| Positions { dc: start.dc, ac })
             .map_err(|no| Refused { no, start });
-        call.answered(ends) && self.hold(&[rows.as_slice()], &self.stored())
+        call.answered(ends) && self.hold(&[rows.as_slice()], &self.stored::<u8, STORED8>())
     }
 
     // The call that the record names.
     fn holds(self) -> bool {
         match self.call.record.byte(0) {
-            0 => self.plane::<u8>(&mut self.room(), &self.stored()),
-            1 => self.plane::<u16>(&mut self.room(), &self.stored()),
+            0 => self.plane::<u8>(&mut self.room(), &self.stored::<u8, STORED8>()),
+            1 => self.plane::<u16>(&mut self.room(), &self.stored::<u16, STORED10>()),
             2 => self.slice::<u8>(
                 &mut self.room(),
                 &mut self.room(),
                 &mut self.room(),
                 &mut self.room(),
-                &self.stored(),
+                &self.stored::<u8, STORED8>(),
             ),
             3 => self.slice::<u16>(
                 &mut self.room(),
                 &mut self.room(),
                 &mut self.room(),
                 &mut self.room(),
-                &self.stored(),
+                &self.stored::<u16, STORED10>(),
             ),
             4 => self.preview(),
             _ => self.report(),
