@@ -1,15 +1,15 @@
--- Bits joined in a word, and a word's bytes copied into a part of the buffer: laid where the part begins. Assumes nothing.
-use Rattle.std.proofs.Common.{◌≡◌, ℕ, zero, suc, ◌+◌, ◌-◌, ◌*◌, ◌%◌, ◌^◌, ◌≤◌, ◌<◌, List, [], ◌++◌, length, take, drop, refl, ap, arith}
+-- Bits joined in a word, and a word's bytes copied or stored into a part of the buffer: laid where the part begins. Assumes nothing.
+use Rattle.std.proofs.Common.{◌≡◌, ℕ, suc, ◌+◌, ◌-◌, ◌*◌, ◌/◌, ◌%◌, ◌^◌, ◌≤◌, ◌<◌, List, [], ◌∷◌, ◌++◌, length, take, drop, slice_set, append-nil, refl, sym, ap, arith}
 use mathlib.Core.Path.{◌∙◌}
+use mathlib.Core.List.{append_assoc}
 use Rattle.std.specs.Int.{to_be_bytes, w64}
-use Rattle.std.proofs.lemmas.List.{drop-drop}
+use Rattle.std.proofs.lemmas.List.{drop-drop, length-drop, length-take-le, take_more_set}
 use native.Mathlib.Nat.{div-one, one-mul, mod-eq_of_lt}
 use lib.Pow.{shl_exact, pow-lt, pow_pos}
 use lib.Bits.{bit_and, bit_or, or_shifted, and_mask}
 use lib.Seq.{take_all}
 use Rattle.bits.specs.Lay.{lay}
 use Rattle.bits.specs.ByteRow.{word_bytes}
-use Rattle.bits.proofs.Pack.{word_length}
 
 -- a, then the n bits of v
 pub joined : (a n v : ℕ) → n < 64 → a < 2 ^ (64 - n) → v < 2 ^ n → bit_or (a * 2 ^ n % 2 ^ 64) v ≡ a * 2 ^ n + v
@@ -34,13 +34,19 @@ no_bytes_lem : (w : ℕ) → word_bytes 0 w ≡ []
 unfolding word_bytes
 no_bytes_lem w = refl
 
-last : (n k m w : ℕ) → n ≡ k + m → drop k (word_bytes n w) ≡ word_bytes m w
+-- of the bytes of w, i are stored and k are to come: the next one is stored
+pub byte_stored : (l : List ℕ) (i k w : ℕ) → i < length l → 0 < k
+    → take (i + 1) (slice_set l i (w / 2 ^ (8 * (k - 1)) % 256)) ++ word_bytes (k - 1) w ≡ take i l ++ word_bytes k w
 unfolding word_bytes
-last n zero m w e = let f : n ≡ m = omega arith in rw f refl
-last zero (suc k) m w e = absurd (omega arith)
-last (suc n) (suc k) m w e = last n k m w (omega arith)
+byte_stored l i k w h g =
+    let e : k ≡ suc (k - 1) = omega arith in
+    ap (λ (x : List ℕ). x ++ word_bytes (k - 1) w) (take_more_set l i (w / 2 ^ (8 * (k - 1)) % 256) h) ∙ append_assoc (take i l) (w / 2 ^ (8 * (k - 1)) % 256 ∷ []) (word_bytes (k - 1) w)
+    ∙ ap (λ (x : ℕ). take i l ++ word_bytes x w) (sym e)
 
-pub last_bytes : (m w : ℕ) → m ≤ 8 → take (8 - (8 - m)) (drop (8 - m) (to_be_bytes w64 w)) ≡ word_bytes m w
-last_bytes m w h =
-    ap (λ (l : List ℕ). take (8 - (8 - m)) (drop (8 - m) l)) (eight w) ∙ ap (take (8 - (8 - m))) (last 8 (8 - m) m w (omega arith))
-    ∙ take_all (8 - (8 - m)) (word_bytes m w) (omega (arith, word_length m w))
+-- all are stored
+pub bytes_stored : (l : List ℕ) (i k w : ℕ) → length l ≤ i → k ≡ 0 → take i l ++ word_bytes k w ≡ l
+bytes_stored l i k w h e = rw (e, no_bytes_lem w, append-nil (take i l)) (take_all i l h)
+
+-- a part's length
+pub part_length : (l : List ℕ) (p m : ℕ) → p + m ≤ length l → length (take (p + m - p) (drop p l)) ≡ m
+part_length l p m h = length-take-le (p + m - p) (drop p l) (omega (arith, length-drop p l)) ∙ omega arith

@@ -30,12 +30,15 @@ pub fn store8(out: &mut [u8], p: usize, w: u64)
     out[p..p + 8].copy_from_slice(&w.to_be_bytes());
 }
 
-// Stores the m low bytes of w at p, the highest first.
-#[tactic(auto, using(crate::proofs::Laid::copied, crate::proofs::Laid::last_bytes, bits::proofs::Pack::word_length))]
+// Stores the m low bytes of w at p, the highest first. A copy out of w's array of bytes would be a call of memcpy, which an archive for C
+// would then need from outside.
 pub fn store_low(out: &mut [u8], p: usize, w: u64, m: u32)
     requires { (m ≤ 8) × (p + m ≤ length out.old) }
     ensures { out.new ≡ lay out.old p (word_bytes m w) }
 {
-    let n = m as usize;
-    out[p..p + n].copy_from_slice(&w.to_be_bytes()[8 - n..]);
+    let mut k = m;
+    for byte in out[p..p + m as usize].iter_mut() {
+        k -= 1;
+        *byte = ((w >> (8 * k)) % 256) as u8;
+    }
 }
