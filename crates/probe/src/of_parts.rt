@@ -1,14 +1,18 @@
 // Parts of lent memory that inner functions hand back, copied out: a stream of a frame (crate parser), a slice's rows (crate shown).
 // `number` is a place that C lends for the answer's number: an export hands back no Result.
-use crate::arrays::put;
 use ask::{Refusal, number_given};
 use layout::Kind;
 
-// Copies a part to the buffer's start, where there is room for all of it. Its length, 0 of none, and the number of the answer.
+// Copies a part to the buffer's start, where there is room for all of it. Its length, 0 of none, and the number of the answer. It is a
+// loop, since copy_from_slice would be a call of memmove, which the archive would then need from outside.
 fn copied<T: Copy>(answer: Result<&[T], Refusal>, number: &mut u32, out: &mut [T]) -> usize {
     *number = number_given(answer.map(|_| ()));
     let part = answer.unwrap_or(&[]);
-    put(out, part);
+    if part.len() <= out.len() {
+        for (to, from) in out.iter_mut().zip(part) {
+            *to = *from;
+        }
+    }
     part.len()
 }
 
