@@ -20,15 +20,13 @@ struct Asked<'a> {
     verdict: u32,
 }
 
-// A picture, by its first sample: neighbours differ.
-fn picture<T: Depth>(first: u16) -> [T; MOST] {
-    let mut samples = [T::default(); MOST];
+// Makes a picture, by its first sample: neighbours differ.
+fn make<T: Depth>(samples: &mut [T], first: u16) {
     let mut number = first;
     for sample in samples.iter_mut() {
         *sample = T::of_number(number);
         number = number.wrapping_add(40503);
     }
-    samples
 }
 
 impl<'a> Asked<'a> {
@@ -84,6 +82,25 @@ impl<'a> Asked<'a> {
         shown::shown_rows(new, held, self.stride, self.slice, self.verdict).map_err(Refusal::number)
             == self.record.answer(1, stored)
     }
+
+    // The same, out of the record's pictures, which are made in this room.
+    fn rows_in<T: Depth>(self, new: &mut [T], held: &mut [T], stored: &[T]) -> bool {
+        let [first_new, first_held]: [u16; 2] = self.record.numbers(4);
+        make(new, first_new);
+        make(held, first_held);
+        self.rows(new, held, stored)
+    }
+
+    // Of 8-bit samples. A function pays for all its room at each call, so each depth has one of its own.
+    fn eight(self) -> bool {
+        self.rows_in(&mut [0; MOST], &mut [0; MOST], self.record.part(64..320))
+    }
+
+    // Of 10-bit samples.
+    fn ten(self) -> bool {
+        let stored: [u16; 128] = self.record.numbers(64);
+        self.rows_in(&mut [0; MOST], &mut [0; MOST], &stored)
+    }
 }
 
 // The time, by the exported call and the inner one.
@@ -97,17 +114,10 @@ fn time(record: Record<'_>) -> bool {
 
 pub fn holds(record: Record<'_>) -> bool {
     let asked = Asked::of(record);
-    let [new, held]: [u16; 2] = record.numbers(4);
     match record.byte(0) {
         0 => asked.by_lengths(),
-        1 => {
-            let stored = record.part(64..320);
-            asked.by_lengths() && asked.rows::<u8>(&picture(new), &picture(held), stored)
-        }
-        2 => {
-            let stored: [u16; 128] = record.numbers(64);
-            asked.by_lengths() && asked.rows(&picture(new), &picture(held), &stored)
-        }
+        1 => asked.by_lengths() && asked.eight(),
+        2 => asked.by_lengths() && asked.ten(),
         _ => time(record),
     }
 }
