@@ -37,8 +37,12 @@ pub fn walk_views(
     for k in 0..n {
         match parser::streams::one_stream(f, limit, at) {
             Ok(end) => {
-                let view = [(at + 4) as u32, (end - (at + 4)) as u32];
-                table::put(table, 2 * (from + k), &view);
+                table::put_view(
+                    table,
+                    2 * (from + k),
+                    (at + 4) as u32,
+                    (end - (at + 4)) as u32,
+                );
                 at = end;
             }
             Err(no) => {

@@ -1,9 +1,20 @@
 // The table of views: two numbers each.
-ghost use Rattle.std.specs.Prelude.{◌≡◌, ◌+◌, ◌*◌, ◌≤◌, length};
+ghost use Rattle.std.specs.Prelude.{◌≡◌, [], ◌∷◌, ◌+◌, ◌*◌, ◌≤◌, length};
 ghost use Rattle.ask.specs.Ask.{refused};
 ghost use Rattle.ask.specs.Numbers.{no_turn};
 ghost use Rattle.bits.specs.Lay.{lay};
 ghost use Rattle.views.specs.walk.Table.{views_of};
+
+// Stores a view at i, each number by itself: from an array of both the compiler loads them as one, which waits for the two stores that
+// made the array (1.4 times the time of a table of 136 views).
+#[tactic(auto, using(crate::proofs::walk::Pair::two_laid))]
+pub fn put_view(table: &mut [u32], i: usize, offset: u32, size: u32)
+    requires { i + 2 ≤ length table.old }
+    ensures { table.new ≡ lay table.old i (offset ∷ size ∷ []) }
+{
+    table[i] = offset;
+    table[i + 1] = size;
+}
 
 // Stores numbers from i on.
 #[tactic(auto, unfolding(bits::specs::Lay::lay))]

@@ -15,11 +15,11 @@ returns-in-Err c =
     let no = stops a.f.now a.n a.limit a.p a.from a.table.now a.held.now c.requires w c.loop-k-test.true (sym c.in-Err.ensures.place) in (
       sym no,
       rw no
-          (undone a.f.now a.n a.limit a.p a.from a.table.now a.held.now c.requires w c.loop-k-test.true c.put-in-Err.ensures),
+          (undone a.f.now a.n a.limit a.p a.from a.table.now a.held.now c.requires w c.loop-k-test.true c.put.ensures),
     )
 
 pub loop-k-preserved : goal.loop-k-preserved
 loop-k-preserved c =
     let a = c.args in
     goes_on_lem a.f.now a.n a.limit a.p a.from a.table.now a.held.now c.requires c.loop-k.invariant c.loop-k-test.true refl
-    (sym c.in-Ok.ensures.place) c.put.ensures
+    (sym c.in-Ok.ensures.place) c.put_view.ensures
