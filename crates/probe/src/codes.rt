@@ -54,15 +54,13 @@ fn fits(acc: BitAcc, out: &[u8]) -> bool
     16 <= out.len() && acc.pos <= out.len() - 16
 }
 
-// Appends a code that the writer takes, where there is room for any.
+// Appends a code that the writer takes, where there is room for any. Asked before the code is made of its kind: so the compiler
+// makes one choice by the kind of both.
 #[tactic(auto, using(probe_pairs::proofs::Writer::room_of_lem, probe_pairs::proofs::Writer::value_long, probe_pairs::proofs::Writer::run_long, probe_pairs::proofs::Writer::both_long))]
 fn put<W: Writer>(acc: BitAcc, code: Code, out: &mut [u8]) -> BitAcc
-    requires { Going acc }
+    requires { Going acc × Fits acc out.old }
     ensures { Going result }
 {
-    if !fits(acc, out) {
-        return acc;
-    }
     match code {
         Code::Value(value) if 0 < value => W::put_value(acc, value, out),
         Code::Run(run) if run <= RUN_MAX => W::put_run(acc, run, out),
@@ -85,7 +83,9 @@ pub fn write<W: Writer>(
 ) -> usize {
     let mut acc = BitAcc::starting_at(at);
     for ((kind, run), value) in kinds.iter().zip(runs).zip(codes) {
-        acc = put::<W>(acc, W::code(*kind, *run, *value), out);
+        if fits(acc, out) {
+            acc = put::<W>(acc, W::code(*kind, *run, *value), out);
+        }
     }
     if runs.len() < kinds.len() || codes.len() < kinds.len() {
         return 0;

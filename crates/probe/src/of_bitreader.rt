@@ -21,7 +21,8 @@ fn code(s: &[u8], c: AcCursor, dc: bool) -> Result<Got, BadCode>
 }
 
 // The codes of a stream from the bit `at` on, up to the first bad one or as many as there is room for: of each the head
-// bit, the number (0: bad) and the bit after it. How many numbers were stored.
+// bit, the number (0: bad) and the bit after it. How many numbers were stored. One by one: copy_from_slice asks of each three whether
+// it lies over what is copied.
 pub fn probe_bitreader_read(s: &[u8], at: usize, dc: bool, out: &mut [u64]) -> usize {
     if FARTHEST < at {
         return 0;
@@ -35,7 +36,9 @@ pub fn probe_bitreader_read(s: &[u8], at: usize, dc: bool, out: &mut [u64]) -> u
         stored += 3;
         match code(s, cursor, dc) {
             Ok(got) => {
-                three.copy_from_slice(&[got.run, got.num, got.c.pos as u64]);
+                three[0] = got.run;
+                three[1] = got.num;
+                three[2] = got.c.pos as u64;
                 cursor = got.c;
             }
             Err(bad) => {
