@@ -54,8 +54,7 @@ fn fits(acc: BitAcc, out: &[u8]) -> bool
     16 <= out.len() && acc.pos <= out.len() - 16
 }
 
-// Appends a code that the writer takes, where there is room for any. Asked before the code is made of its kind: so the compiler
-// makes one choice by the kind of both.
+// Appends a code that the writer takes; there is room for any.
 #[tactic(auto, using(probe_pairs::proofs::Writer::room_of_lem, probe_pairs::proofs::Writer::value_long, probe_pairs::proofs::Writer::run_long, probe_pairs::proofs::Writer::both_long))]
 fn put<W: Writer>(acc: BitAcc, code: Code, out: &mut [u8]) -> BitAcc
     requires { Going acc × Fits acc out.old }
@@ -83,6 +82,7 @@ pub fn write<W: Writer>(
 ) -> usize {
     let mut acc = BitAcc::starting_at(at);
     for ((kind, run), value) in kinds.iter().zip(runs).zip(codes) {
+        // Asked before the code is made of its kind: so making it and looking at it become one choice.
         if fits(acc, out) {
             acc = put::<W>(acc, W::code(*kind, *run, *value), out);
         }
